@@ -12,7 +12,7 @@ use Rattle.atomic_table.specs.Table.{State, Me, step, keeps, stepped, Allows, Sp
 use Rattle.atomic_table.proofs.Lists.{set_else}
 use Rattle.claim_board.specs.declared.view.View.{View}
 use Rattle.claim_board.specs.declared.view.Key.{Key}
-use Rattle.claim_board.specs.Views.{opening, split_off, after_split, claimed, looked, posted, joined, spent, told, IsInBlock, IsInOpenBlock, StartedBelowCount, HasTriedOpenBlock, HasEnded, IsLeastWord, blocks_of, sum_below}
+use Rattle.claim_board.specs.Views.{opening, split_off, after_split, claimed, looked, posted, joined, spent, told, IsInBlock, IsInOpenBlock, StartedBelowCount, HasTriedOpenBlock, HasEnded, IsLeastWord, block_count, sum_below}
 use Rattle.claim_board.specs.Rule.{times, past_count, claims_left, IsFit, IsSpentOrFit, IsKept}
 use Rattle.claim_board.specs.Steps.{Sat, Claims, Finds, Looks, Posts, tells}
 use Rattle.claim_board.proofs.Sums.{one_if, All-at, sum-set, sums_le, sums_same, sum-flat, times-Contains, HasEachOnce, weighed}
@@ -74,17 +74,17 @@ pub all_once : (key : Key) (s : St) (o : IsKept key s) → HasEachOnce (blocks s
 all_once key s o n = sym (sum-flat (λ x. one_if (x == n)) (λ (v : View). v.mine) s.views) ∙ o.once n
 
 -- no more blocks are claimed than there are, and one past the count for each of the 64 seats
-pub next_le : (key : Key) (s : St) (o : IsKept key s) → next_of s ≤ blocks_of key.count key.block + 64
+pub next_le : (key : Key) (s : St) (o : IsKept key s) → next_of s ≤ block_count key.count key.block + 64
 next_le key s o =
     let h : ℕ → ℕ = past key.count key.block in
     let same : sum_by past_count s.views ≡ sum_by (λ (v : View). sum_by h v.mine) s.views = sums_same past_count (λ (v : View). sum_by h v.mine) s.views
-        (All-weaker (IsSpentOrFit key o.meets (least_of s)) (λ v. past_count v ≡ sum_by h v.mine)
-            (λ v kind. ⊎_elim (λ (e : v ≡ spent). subst (λ (u : View). past_count u ≡ sum_by h u.mine) (sym e) refl)
-            (λ (f : IsFit key o.meets (least_of s) v). ap (λ (z : ℕ × ℕ). sum_by (past z.0 z.1) v.mine) (λ i. (f.count i, f.block i))) kind) s.views o.fits) in
+    (All-weaker (IsSpentOrFit key o.meets (least_of s)) (λ v. past_count v ≡ sum_by h v.mine)
+    (λ v kind. ⊎_elim (λ (e : v ≡ spent). subst (λ (u : View). past_count u ≡ sum_by h u.mine) (sym e) refl)
+    (λ (f : IsFit key o.meets (least_of s) v). ap (λ (z : ℕ × ℕ). sum_by (past z.0 z.1) v.mine) (λ i. (f.count i, f.block i))) kind) s.views o.fits) in
     let few : sum_by past_count s.views ≤ sum_by (λ (v : View). v.parts + v.spare) s.views = sums_le past_count (λ (v : View). v.parts + v.spare) s.views
-        (All-weaker (IsSpentOrFit key o.meets (least_of s)) (λ v. past_count v ≤ v.parts + v.spare)
-            (λ v kind. ⊎_elim (λ (e : v ≡ spent). subst (λ (u : View). past_count u ≤ u.parts + u.spare) (sym e) (omega arith))
-            (λ (f : IsFit key o.meets (least_of s) v). omega (arith, f.few)) kind) s.views o.fits) in
+    (All-weaker (IsSpentOrFit key o.meets (least_of s)) (λ v. past_count v ≤ v.parts + v.spare)
+    (λ v kind. ⊎_elim (λ (e : v ≡ spent). subst (λ (u : View). past_count u ≤ u.parts + u.spare) (sym e) (omega arith))
+    (λ (f : IsFit key o.meets (least_of s) v). omega (arith, f.few)) kind) s.views o.fits) in
     omega (arith, same, few, o.whole, sum-flat h (λ (v : View). v.mine) s.views, weighed h (blocks s) (next_of s) (all_once key s o), blocks_cover key.count key.block (next_of s) o.some_block)
 
 -- a seat's blocks are below the next one
@@ -127,9 +127,9 @@ claimed_once n next mine =
     ⊎_elim
     (λ (e : next ≡ n). omega (arith, push, ap one_if (eq-eqb next n e), ap one_if (le-ltb n next (omega arith)), ap one_if (lt-ltb n (next + 1) (omega arith))))
     (λ (ne : next ≡ n → ⊥). ⊎_elim
-        (λ (l : n < next). omega (arith, push, ap one_if (ne_eqb next n ne), ap one_if (lt-ltb n next l), ap one_if (lt-ltb n (next + 1) (omega arith))))
-        (λ (g : next ≤ n). omega (arith, push, ap one_if (ne_eqb next n ne), ap one_if (le-ltb n next g), ap one_if (le-ltb n (next + 1) (omega (arith, λ (e : next ≡ n). ne e)))))
-        (cases_lt n next))
+    (λ (l : n < next). omega (arith, push, ap one_if (ne_eqb next n ne), ap one_if (lt-ltb n next l), ap one_if (lt-ltb n (next + 1) (omega arith))))
+    (λ (g : next ≤ n). omega (arith, push, ap one_if (ne_eqb next n ne), ap one_if (le-ltb n next g), ap one_if (le-ltb n (next + 1) (omega (arith, λ (e : next ≡ n). ne e)))))
+    (cases_lt n next))
     (cases_eq next n)
 
 pub claims : (key : Key) (slots id : ℕ) (m : Sat) → 0 < m.0.parts → StartedBelowCount m.0 → HasTriedOpenBlock m.0
@@ -138,7 +138,7 @@ claims key slots id m live started tried s o _ at _ =
     let v : View = m.0 in
     let n : ℕ = next_of s in
     let f = fit_at key s o id v at live in
-    let room : n ≤ blocks_of key.count key.block + 64 = next_le key s o in
+    let room : n ≤ block_count key.count key.block + 64 = next_le key s o in
     let fits_word : (n + 1) % 2 ^ 64 ≡ n + 1 = omega (arith, blocks-le key.count key.block o.some_block, o.small_count) in
     let ws : List ℕ = set s.words 0 ((n + 1) % 2 ^ 64) in
     let next : get_or ws 0 0 ≡ n + 1 = get_or-set_same s.words 0 ((n + 1) % 2 ^ 64) 0 (omega (arith, o.two_words)) ∙ fits_word in
@@ -153,7 +153,8 @@ claims key slots id m live started tried s o _ at _ =
       record {
         after = refl;
         above = λ k d l. mine_below key s o id v at (get_or v.mine k d) (Rattle.std.proofs.lemmas.List.Elements.Contains-get_or v.mine k d l);
-        few = subst (λ (z : ℕ × ℕ). n ≤ blocks_of z.0 z.1 + 64) (λ i. (sym f.count i, sym f.block i)) room;
+        above_last = λ b e. mine_below key s o id v at b (f.last_is_mine b e);
+        few = subst (λ (z : ℕ × ℕ). n ≤ block_count z.0 z.1 + 64) (λ i. (sym f.count i, sym f.block i)) room;
       },
     )
 
@@ -204,8 +205,8 @@ posts key slots id m k live has s o _ at _ =
     let least : get_or ws 1 0 ≡ to = get_or-set_same s.words 1 to 0 (omega (arith, o.two_words)) in
     let meets_k : Contains o.meets k = subst (λ (ms : List ℕ). Contains ms k) f.meets_same has in
     let found : (to ≡ key.count) ⊎ Contains o.meets to = ⊎_elim
-        (λ (l : old < k). let e : old ≡ to = omega arith in subst (λ (y : ℕ). (y ≡ key.count) ⊎ Contains o.meets y) e o.found)
-        (λ (g : k ≤ old). let e : k ≡ to = omega arith in inr (subst (λ (y : ℕ). Contains o.meets y) e meets_k)) (cases_lt old k) in (
+    (λ (l : old < k). let e : old ≡ to = omega arith in subst (λ (y : ℕ). (y ≡ key.count) ⊎ Contains o.meets y) e o.found)
+    (λ (g : k ≤ old). let e : k ≡ to = omega arith in inr (subst (λ (y : ℕ). Contains o.meets y) e meets_k)) (cases_lt old k) in (
       posted v old k,
       keeps,
       tt,

@@ -79,7 +79,7 @@ names key slots id m meets first rising below s o _ at _ =
     let f = fit_at key s o id v at live in
     let none_named : o.meets ≡ [] = sym f.meets_same ∙ ap (λ (u : View). u.meets) first in
     let least : least_of s ≡ key.count = ⊎_elim (λ (e : least_of s ≡ key.count). e)
-        (λ (has : Contains o.meets (least_of s)). absurd (omega (arith, has.1, ap length none_named))) o.found in
+    (λ (has : Contains o.meets (least_of s)). absurd (omega (arith, has.1, ap length none_named))) o.found in
     let no_blocks : v.mine ≡ [] = ap (λ (u : View). u.mine) first in
     let same : set s.words 0 (next_of s) ≡ s.words = lib.Seq.set-get_or s.words 0 0 in
     let P : View → Type 0 = IsSpentOrFit key meets (least_of s) in
@@ -171,7 +171,7 @@ joined_fits key meets least v w f g ended =
       tried = λ k n has low mine in_block. ⊎_elim
           (λ (own : Contains v.mine n). f.tried k n has (omega (arith, low)) own in_block)
           (λ (taken : Contains w.mine n). absurd (ended_tried key meets least w g ended k n has (omega (arith, low)) taken
-              (subst (λ (b : ℕ). n * b ≤ k) same_block in_block.0) (subst (λ (b : ℕ). k < (n + 1) * b) same_block in_block.1) (omega (arith, in_block.2, same_count))))
+          (subst (λ (b : ℕ). n * b ≤ k) same_block in_block.0) (subst (λ (b : ℕ). k < (n + 1) * b) same_block in_block.1) (omega (arith, in_block.2, same_count))))
           (Contains-append_cases v.mine w.mine n mine);
       few = omega (arith, f.few, g.few, sum_by-append (past v.count v.block) v.mine w.mine, ap (λ (z : ℕ × ℕ). sum_by (past z.0 z.1) w.mine) (λ i. (same_count i, same_block i)));
     }
@@ -224,18 +224,18 @@ closes key s o id v at live all over =
     let once : HasEachOnce v.mine (next_of s) = alone-once key s o id v at all in
     let last_below : (n : ℕ) → v.last ≡ Some n → n < next_of s = λ n e. each_below v.mine (next_of s) once n (times-Contains v.mine n (f.last_is_mine n e)) in
     let none_lower : (k : ℕ) → Contains o.meets k → least ≤ k = λ k has. ⊎_elim
-        (λ (low : k < least).
-            let n : ℕ = k / v.block in
-            let size : 0 < v.block = omega (arith, o.some_block, f.block) in
-            let low' : k < v.seen = omega (arith, f.not_lost) in
-            let within : k < v.count = omega (arith, All-contains (λ x. x < key.count) o.meets k o.below has, f.count) in
-            let split : n * v.block + k % v.block ≡ k = div-add-mod' k v.block in
-            let rest : k % v.block < v.block = mod_below k v.block size in
-            let before : n < last = ⊎_elim (λ (l : n < last). l) (λ (g : last ≤ n). let up : last * v.block ≤ n * v.block = mul-le-mul_right v.block g in absurd (omega (arith, over.2))) (cases_lt n last) in
-            let early : n < next_of s = omega (arith, last_below last over.1) in
-            let mine : Contains v.mine n = Contains-times v.mine n (omega (arith, once n, ap one_if (lt-ltb n (next_of s) early))) in
-            absurd (omega (arith, same_Some n last (sym (f.tried k n has low' mine (omega arith, omega arith, within)) ∙ over.1))))
-        (λ (g : least ≤ k). g) (cases_lt k least) in
+    (λ (low : k < least).
+    let n : ℕ = k / v.block in
+    let size : 0 < v.block = omega (arith, o.some_block, f.block) in
+    let low' : k < v.seen = omega (arith, f.not_lost) in
+    let within : k < v.count = omega (arith, All-contains (λ x. x < key.count) o.meets k o.below has, f.count) in
+    let split : n * v.block + k % v.block ≡ k = div-add-mod' k v.block in
+    let rest : k % v.block < v.block = mod_below k v.block size in
+    let before : n < last = ⊎_elim (λ (l : n < last). l) (λ (g : last ≤ n). let up : last * v.block ≤ n * v.block = mul-le-mul_right v.block g in absurd (omega (arith, over.2))) (cases_lt n last) in
+    let early : n < next_of s = omega (arith, last_below last over.1) in
+    let mine : Contains v.mine n = Contains-times v.mine n (omega (arith, once n, ap one_if (lt-ltb n (next_of s) early))) in
+    absurd (omega (arith, same_Some n last (sym (f.tried k n has low' mine (omega arith, omega arith, within)) ∙ over.1))))
+    (λ (g : least ≤ k). g) (cases_lt k least) in
     record {
       next = next_of s;
       first = first_is key.count o.meets least o.rising o.below o.found none_lower ∙ ap (λ (z : ℕ × List ℕ). first_of z.0 z.1) (λ i. (sym f.count i, sym f.meets_same i));

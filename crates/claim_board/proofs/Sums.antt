@@ -86,9 +86,9 @@ spread h n (x ∷ xs) all =
     let first : x < n = All-head (λ x. x < n) x xs all in
     let rest = spread h n xs (All-tail (λ x. x < n) x xs all) in
     let each : (k : ℕ) → k < n → times k (x ∷ xs) * h k ≡ only h x k + times k xs * h k = λ k l. ⊎_elim
-        (λ (e : x ≡ k). let t : times k (x ∷ xs) ≡ 1 + times k xs = times-cons k x xs ∙ ap (λ b. cond b 1 0 + times k xs) (eq-eqb x k e) in omega (arith, ap (λ (m : ℕ). m * h k) t, only-here h x k e))
-        (λ (ne : x ≡ k → ⊥). let t : times k (x ∷ xs) ≡ 0 + times k xs = times-cons k x xs ∙ ap (λ b. cond b 1 0 + times k xs) (ne_eqb x k ne) in omega (arith, ap (λ (m : ℕ). m * h k) t, only-else h x k ne))
-        (cases_eq x k) in
+    (λ (e : x ≡ k). let t : times k (x ∷ xs) ≡ 1 + times k xs = times-cons k x xs ∙ ap (λ b. cond b 1 0 + times k xs) (eq-eqb x k e) in omega (arith, ap (λ (m : ℕ). m * h k) t, only-here h x k e))
+    (λ (ne : x ≡ k → ⊥). let t : times k (x ∷ xs) ≡ 0 + times k xs = times-cons k x xs ∙ ap (λ b. cond b 1 0 + times k xs) (ne_eqb x k ne) in omega (arith, ap (λ (m : ℕ). m * h k) t, only-else h x k ne))
+    (cases_eq x k) in
     omega (arith, sum_by-cons h x xs, rest, below-only h x n first, below-add (only h x) (λ k. times k xs * h k) n, below-same (λ k. times k (x ∷ xs) * h k) (λ k. only h x k + times k xs * h k) n each)
 
 pub times-Contains : (xs : List ℕ) (x : ℕ) → Contains xs x → 0 < times x xs

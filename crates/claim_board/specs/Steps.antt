@@ -1,8 +1,9 @@
 -- What each atomic step tells its caller: of the step, the seat before, the number found in the word, and the seat after.
 use Rattle.std.specs.Prelude.{◌≡◌, ℕ, ◌+◌, ◌<◌, ◌≤◌, List, All}
+use Rattle.std.specs.Option.{ForSome}
 use Rattle.atomic_table.specs.Table.{Me, Step}
 use Rattle.claim_board.specs.declared.view.View.{View}
-use Rattle.claim_board.specs.Views.{claimed, looked, posted, told, IsLeastWord, blocks_of}
+use Rattle.claim_board.specs.Views.{claimed, looked, posted, told, IsLeastWord, block_count}
 
 -- A seat of the table, which holds no slots
 abbrev pub Sat : Type 0
@@ -12,7 +13,8 @@ Sat = Me (Unit {0}) View
 pub record Claims (st : Step (Unit {0})) (m : Sat) (n : ℕ) (m' : Sat) : Type 0 where
   pub after : m' ≡ (claimed m.0 n, m.1)
   pub above : All (λ b. b < n) m.0.mine
-  pub few : n ≤ blocks_of m.0.count m.0.block + 64
+  pub above_last : ForSome m.0.last (λ b. b < n)
+  pub few : n ≤ block_count m.0.count m.0.block + 64
 
 -- The least word was found to be `least`, which is no more than the seat had seen
 pub record Finds (m : Sat) (least : ℕ) : Type 0 where

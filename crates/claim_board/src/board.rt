@@ -2,7 +2,7 @@
 ghost use Rattle.std.specs.Prelude.{◌≡◌, ℕ, ◌+◌, ◌^◌, ◌<◌, ◌≤◌, List, All, Contains, IfOk, sum_by};
 ghost use Rattle.std.specs.Option.{ForSome};
 ghost use Rattle.std.specs.List.Sorted.{IsStrictlyIncreasing};
-ghost use Rattle.claim_board.specs.Views.{opening, split_off, after_split, claimed, looked, posted, joined, IsInOpenBlock, StartedBelowCount, HasTriedOpenBlock, HasEnded, IsOver, IsLeastWord, blocks_of, first_of, sum_below};
+ghost use Rattle.claim_board.specs.Views.{opening, split_off, after_split, claimed, looked, posted, joined, IsInOpenBlock, StartedBelowCount, HasTriedOpenBlock, HasEnded, IsOver, IsLeastWord, block_count, first_of, sum_below};
 ghost use Rattle.claim_board.specs.Rule.{times};
 ghost use Rattle.claim_board.specs.Seated.{Seated, IsSeatOf};
 
@@ -95,7 +95,8 @@ impl Board {
         requires tried { HasTriedOpenBlock seat.old.view }
         ensures view { seat.new ≡ record seat.old { view = claimed seat.old.view result } }
         ensures above { All (λ n. n < result) seat.old.view.mine }
-        ensures few { result ≤ blocks_of seat.old.view.count seat.old.view.block + 64 }
+        ensures above_last { ForSome seat.old.view.last (λ last. last < result) }
+        ensures few { result ≤ block_count seat.old.view.count seat.old.view.block + 64 }
     {
         self.table
             .shared

@@ -19,9 +19,10 @@
 mod board;
 mod memory;
 mod rule;
+#[cfg(test)]
+mod tests;
 mod view;
 
 pub use board::{Board, Seat};
 pub use memory::Memory;
-pub use rule::{Kept, Step};
-pub use view::{Key, View};
+pub use view::View;

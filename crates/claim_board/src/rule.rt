@@ -1,10 +1,10 @@
-//! The rule of the board's table, and its steps.
+//! The rule of the board's table, and what each of its steps tells.
 use crate::view::{Key, View};
 use atomic_table::{Join, Play, Split, TableRule};
 use std::marker::Brand;
 
-/// The rule of a board's two words.
-pub struct Kept;
+// The rule of a board's two words and of its seats' views.
+pub(crate) struct Kept;
 
 impl TableRule<(), View, Key> for Kept {
     ghost use Rattle.std.specs.Prelude.{[]};
@@ -16,9 +16,7 @@ impl TableRule<(), View, Key> for Kept {
     ghost first = { λ key. opening key.count key.block [] };
 }
 
-/// The steps of a board.
-pub struct Step;
-
+// `fetch_add` on the word `next`.
 pub(crate) struct Claim;
 
 impl Play<(), View> for Claim {
@@ -27,6 +25,7 @@ impl Play<(), View> for Claim {
     ghost then = { Claims };
 }
 
+// A load of the word `least`.
 pub(crate) struct Look;
 
 impl Play<(), View> for Look {
@@ -35,6 +34,7 @@ impl Play<(), View> for Look {
     ghost then = { Looks };
 }
 
+// `fetch_min` on the word `least`.
 pub(crate) struct Post;
 
 impl Play<(), View> for Post {
@@ -43,7 +43,7 @@ impl Play<(), View> for Post {
     ghost then = { Posts };
 }
 
-// The call picks which numbers meet.
+// The load that makes a board: the proof of the call picks which numbers meet.
 impl Play<(), View> for Brand {
     ghost use Rattle.std.specs.Prelude.{[]};
     ghost use Rattle.claim_board.specs.Steps.{tells};
@@ -51,6 +51,7 @@ impl Play<(), View> for Brand {
     ghost then = { tells [] };
 }
 
+// The load that makes a seat.
 pub(crate) struct SplitOff;
 
 impl Split<View> for SplitOff {
@@ -61,6 +62,7 @@ impl Split<View> for SplitOff {
     ghost right = { split_off };
 }
 
+// The load that joins two seats.
 pub(crate) struct TakeIn;
 
 impl Join<View> for TakeIn {

@@ -4,11 +4,11 @@ ghost use Rattle.std.specs.Borrow.{ftrue};
 
 use std::marker::Model;
 
-/// What a board is made for: how many numbers there are, and how many of them are a block.
+// What a board is made for: how many numbers there are, and how many of them are a block.
 #[derive(Drop)]
-pub struct Key {
-    pub count: u64,
-    pub block: u64,
+pub(crate) struct Key {
+    pub(crate) count: u64,
+    pub(crate) block: u64,
 }
 
 /// What a seat knows. It is there for proofs alone: no value of it is made.
