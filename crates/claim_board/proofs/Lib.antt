@@ -2,4 +2,4 @@ pub mod Sums
 pub mod Blocks
 pub mod Keeps
 pub mod Seats
-pub mod Sought
+pub mod Marked
