@@ -1,20 +1,18 @@
 -- Each step of the board keeps its rule.
-use Rattle.std.proofs.Common.{◌≡◌, ℕ, zero, suc, ◌+◌, ◌-◌, ◌*◌, ◌%◌, ◌^◌, ◌<◌, ◌≤◌, ◌⊎◌, ◌==◌, nat_lt, nat_le, min, Bool, List, [], ◌∷◌, ◌++◌, Option, None, Some, cond, length, get_or, set, flat_map, sum_by, All, Contains, sym, refl, ap, ◌∙◌, subst, arith, inl, inr, ⊎_elim, length-set, get_or-set_same, get_or-set_other}
+use Rattle.std.proofs.Common.{◌≡◌, ℕ, ◌+◌, ◌*◌, ◌%◌, ◌^◌, ◌<◌, ◌≤◌, ◌⊎◌, ◌==◌, nat_lt, min, List, [], ◌∷◌, ◌++◌, Option, None, Some, length, get_or, set, flat_map, sum_by, Contains, sym, refl, ap, ◌∙◌, subst, arith, inl, inr, ⊎_elim, length-set, get_or-set_same, get_or-set_other}
 use Rattle.std.specs.Option.{ForSome}
-use Rattle.std.specs.List.Sorted.{IsStrictlyIncreasing}
-use Rattle.std.proofs.lemmas.List.Sums.{sum_by_push, sum_by-append}
+use Rattle.std.proofs.lemmas.List.Sums.{sum_by_push}
 use Rattle.std.proofs.lemmas.List.Elements.{All-set, All-push, All-weaker, Contains-push, Contains-push_cases, Contains-append_left, Contains-append_cases}
 use Rattle.std.proofs.lemmas.Bool.{cases_eq, cases_lt, eq-eqb, ne_eqb, lt-ltb, le-ltb, le-leb, lt-leb}
-use Rattle.std.proofs.lemmas.Option.{same_Some, none-some}
+use Rattle.std.proofs.lemmas.Option.{same_Some}
 use mathlib.Core.Option.{some}
 use lib.ListN.{get_elem?}
-use Rattle.atomic_table.specs.Table.{State, Me, step, keeps, stepped, Allows, Splits, Joins}
-use Rattle.atomic_table.proofs.Lists.{set_else}
+use Rattle.atomic_table.specs.Table.{State, step, keeps, Allows}
 use Rattle.claim_board.specs.declared.view.View.{View}
 use Rattle.claim_board.specs.declared.view.Key.{Key}
-use Rattle.claim_board.specs.Views.{opening, split_off, after_split, claimed, looked, posted, joined, spent, told, IsInBlock, IsInOpenBlock, StartedBelowCount, HasTriedOpenBlock, HasEnded, IsLeastWord, block_count, sum_below}
+use Rattle.claim_board.specs.Views.{claimed, looked, posted, spent, StartedBelowCount, HasTriedOpenBlock, block_count}
 use Rattle.claim_board.specs.Rule.{times, past_count, claims_left, IsFit, IsSpentOrFit, IsKept}
-use Rattle.claim_board.specs.Steps.{Sat, Claims, Finds, Looks, Posts, tells}
+use Rattle.claim_board.specs.Steps.{Sat, Claims, Finds, Looks, Posts}
 use Rattle.claim_board.proofs.Sums.{one_if, All-at, sum-set, sums_le, sums_same, sum-flat, times-Contains, HasEachOnce, weighed}
 use Rattle.claim_board.proofs.Blocks.{past, blocks_cover, blocks-le}
 

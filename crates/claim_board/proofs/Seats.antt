@@ -1,5 +1,5 @@
 -- A board is made, its seats are split and joined, and it is closed, under its rule.
-use Rattle.std.proofs.Common.{◌≡◌, ℕ, zero, suc, ◌+◌, ◌-◌, ◌*◌, ◌/◌, ◌%◌, ◌^◌, ◌<◌, ◌≤◌, ◌⊎◌, ◌==◌, nat_lt, min, List, [], ◌∷◌, ◌++◌, Option, None, Some, cond, length, get_or, set, sum_by, All, Contains, sym, refl, ap, ◌∙◌, subst, arith, inl, inr, ⊎_elim, set-set, div-add-mod', mul-le-mul_right}
+use Rattle.std.proofs.Common.{◌≡◌, ℕ, zero, suc, ◌+◌, ◌*◌, ◌/◌, ◌%◌, ◌^◌, ◌<◌, ◌≤◌, ◌⊎◌, ◌==◌, List, [], ◌∷◌, Some, length, get_or, set, sum_by, All, Contains, sym, refl, ap, ◌∙◌, subst, arith, inl, inr, ⊎_elim, set-set, div-add-mod', mul-le-mul_right}
 use Rattle.std.specs.Option.{ForSome}
 use Rattle.std.specs.List.Sorted.{IsStrictlyIncreasing}
 use Rattle.std.proofs.lemmas.List.{get_or_default}
@@ -10,15 +10,15 @@ use Rattle.std.proofs.lemmas.Nat.{mod_below}
 use Rattle.std.proofs.lemmas.Option.{same_Some, none-some}
 use mathlib.Core.Option.{some, none}
 use lib.ListN.{get_elem?}
-use Rattle.atomic_table.specs.Table.{State, Me, step, keeps, opening, Allows, Splits, Joins, Final, Seen}
+use Rattle.atomic_table.specs.Table.{step, keeps, opening, Allows, Splits, Joins, Final, Seen}
 use Rattle.atomic_table.proofs.Lists.{set_else}
 use Rattle.claim_board.specs.declared.view.View.{View}
 use Rattle.claim_board.specs.declared.view.Key.{Key}
 use Rattle.claim_board.specs.Views.{split_off, after_split, joined, spent, told, IsInBlock, HasEnded, IsOver, first_of, sum_below}
 use Rattle.claim_board.specs.Views as views
-use Rattle.claim_board.specs.Rule.{times, past_count, claims_left, IsFit, IsSpentOrFit, IsKept}
+use Rattle.claim_board.specs.Rule.{times, IsFit, IsSpentOrFit, IsKept}
 use Rattle.claim_board.specs.Steps.{Sat, tells}
-use Rattle.claim_board.proofs.Sums.{one_if, at_place, All-at, sum-set, sum_none, Contains-times, HasEachOnce, weighed, each_below, times-Contains}
+use Rattle.claim_board.proofs.Sums.{one_if, at_place, sum-set, sum_none, Contains-times, HasEachOnce, weighed, each_below, times-Contains}
 use Rattle.claim_board.proofs.Blocks.{past}
 use Rattle.claim_board.proofs.Keeps.{St, next_of, least_of, fit_at}
 

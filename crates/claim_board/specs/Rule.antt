@@ -1,4 +1,6 @@
--- What the board keeps between any two atomic steps, whichever workers make them.
+-- What is true of a board between any two atomic steps, whichever workers make them: the state of the table is its
+-- two words, the next block and the least number, and the views of all its seats. A step changes one word and the
+-- view of the seat that makes it, or the views of the two seats that are split or joined.
 use Rattle.std.specs.Prelude.{◌≡◌, ℕ, ◌+◌, ◌*◌, ◌^◌, ◌<◌, ◌≤◌, ◌⊎◌, ◌==◌, nat_lt, nat_le, List, length, Option, None, Some, All, Contains, slice_index, sum_by, count_by, if◌then◌else◌}
 use Rattle.std.specs.Option.{ForSome}
 use Rattle.std.specs.List.Sorted.{IsStrictlyIncreasing}
@@ -40,19 +42,19 @@ pub record IsFit (key : Key) (meets : List ℕ) (least : ℕ) (v : View) : Type 
 abbrev pub IsSpentOrFit : Key → List ℕ → ℕ → View → Type 0
 IsSpentOrFit key meets least v = (v ≡ spent) ⊎ IsFit key meets least v
 
--- The rule of the two words, the next block and the least number, and of all seats' views
+-- The rule
 pub record IsKept (key : Key) (s : State (Unit {0}) View) : Type 0 where
-  -- the numbers that meet
+  -- the numbers that meet: some list, which rises and is below the count
   pub meets : List ℕ
   pub rising : IsStrictlyIncreasing meets
   pub below : All (λ k. k < key.count) meets
   pub small_count : key.count ≤ 2 ^ 40
   pub some_block : 0 < key.block
   pub two_words : length s.words ≡ 2
-  -- each block below the next one was claimed by one seat, once, and no other block by any
+  -- each block below the next one is among the blocks of one seat, once, and no other block is among those of any
   pub once : (n : ℕ) → sum_by (λ v. times n v.mine) s.views ≡ (if nat_lt n (slice_index s.words 0) then 1 else 0)
-  -- the least word is never made up
+  -- the least word is never made up: it is the count, or a number that meets
   pub found : (slice_index s.words 1 ≡ key.count) ⊎ Contains meets (slice_index s.words 1)
-  -- no seat is made beyond the 64
+  -- the seats that there are, and those that may still be split off, are 64
   pub whole : sum_by (λ v. v.parts + v.spare) s.views ≡ 64
   pub fits : All (IsSpentOrFit key meets (slice_index s.words 1)) s.views

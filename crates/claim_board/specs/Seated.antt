@@ -1,6 +1,5 @@
 -- A seat as contracts see it.
 use Rattle.std.specs.Prelude.{◌≡◌}
-use Rattle.std.specs.Coded.{Coded}
 use Rattle.atomic_table.specs.Seated.{TableId}
 use Rattle.claim_board.specs.declared.view.View.{View}
 

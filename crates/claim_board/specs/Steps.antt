@@ -1,4 +1,5 @@
--- What each atomic step tells its caller: of the step, the seat before, the number found in the word, and the seat after.
+-- What each atomic step tells the seat that makes it: of the step, the seat before, the number found in the word, and
+-- the seat after. Splitting and joining tell only the new views (`after_split`, `split_off` and `joined`).
 use Rattle.std.specs.Prelude.{◌≡◌, ℕ, ◌+◌, ◌<◌, ◌≤◌, List, All}
 use Rattle.std.specs.Option.{ForSome}
 use Rattle.atomic_table.specs.Table.{Me, Step}

@@ -1,5 +1,5 @@
 -- For this crate's tests alone: workers that look for the first mark of a row.
-use Rattle.std.specs.Prelude.{◌≡◌, ℕ, ◌+◌, ◌-◌, ◌^◌, ◌≤◌, Bool, true, false, List, length, None, Some, filter, Option, slice_index_or}
+use Rattle.std.specs.Prelude.{◌≡◌, ℕ, ◌+◌, ◌-◌, ◌^◌, ◌≤◌, Bool, false, List, length, None, Some, filter, Option, slice_index_or}
 use Rattle.std.specs.List.{range_with_len}
 use Rattle.claim_board.specs.declared.view.View.{View}
 use Rattle.claim_board.specs.Views.{block_count, IsOver}

@@ -154,7 +154,8 @@ impl Board {
         ensures first { result ≡ first_of seat.view.count seat.view.meets }
         ensures each { ForSome seat.view.last (λ last. (n : ℕ) → n < last → Contains seat.view.mine n) }
         ensures once { (n : ℕ) → times n seat.view.mine ≤ 1 }
-        ensures weighed { (next : ℕ) × ForSome seat.view.last (λ last. last < next) × ((f : ℕ → ℕ) → sum_by f seat.view.mine ≡ sum_below f next) }
+        ensures weighed { (next : ℕ) × ForSome seat.view.last (λ last. last < next)
+            × ((f : ℕ → ℕ) → sum_by f seat.view.mine ≡ sum_below f next) }
     {
         let closed = self.table.close_with(seat.seat);
         let least = closed.word(LEAST);

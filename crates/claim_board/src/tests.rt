@@ -75,12 +75,15 @@ fn fan_out<R: Threads + Sync>(
     let (mut mine, theirs) = join(
         rt,
         || -> Seat
-            requires { IsSync R.row × IsSeatOf board.now seat × IsReady marks.now block seat.view × (1 < workers) × (workers ≤ seat.view.spare + 2) }
-            ensures { IsSeatOf board.entry.now result × HasWorked marks.entry.now block seat.view result.view }
+            requires { IsSync R.row × IsSeatOf board.now seat × IsReady marks.now block seat.view
+                × (1 < workers) × (workers ≤ seat.view.spare + 2) }
+            ensures { IsSeatOf board.entry.now result
+                × HasWorked marks.entry.now block seat.view result.view }
         { fan_out(rt, board, seat, marks, block, workers - 1) },
         || -> Seat
             requires { IsSeatOf board.now other × IsReady marks.now block other.view }
-            ensures { IsSeatOf board.entry.now result × HasWorked marks.entry.now block other.view result.view }
+            ensures { IsSeatOf board.entry.now result
+                × HasWorked marks.entry.now block other.view result.view }
         { work(board, other, marks, block) },
     );
     board.join(&mut mine, theirs);
@@ -128,6 +131,17 @@ fn a_look_sees_what_another_seat_posted(rt: HostRuntime) -> Result<(), Fail> {
     assert_eq!(rt; board.claim(&mut second), 1);
     assert_eq!(rt; board.post(&mut first, 5), 100);
     assert_eq!(rt; board.look(&mut second), 5);
+    Ok(())
+}
+
+// Made for no number that meets, a board hands out each block once.
+#[test]
+fn a_board_may_be_made_for_no_number(rt: HostRuntime) -> Result<(), Fail> {
+    let (board, mut seat) = Board::new(rt.alloc(), 5, 3)?;
+    assert_eq!(rt; board.claim(&mut seat), 0);
+    assert_eq!(rt; board.claim(&mut seat), 1);
+    assert_eq!(rt; board.claim(&mut seat), 2);
+    assert_eq!(rt; board.close(seat), 5);
     Ok(())
 }
 

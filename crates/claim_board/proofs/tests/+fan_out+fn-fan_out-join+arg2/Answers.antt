@@ -1,6 +1,5 @@
 use Rattle.std.proofs.Common.{sym, ap, subst, arith}
 use Rattle.claim_board.specs.declared.view.View.{View}
-use Rattle.claim_board.specs.Views.{joined}
 use Rattle.claim_board.specs.Seated.{Seated}
 use Rattle.claim_board.specs.Trial.{HasWorked}
 use Rattle.claim_board.proofs.Marked.{gathered}

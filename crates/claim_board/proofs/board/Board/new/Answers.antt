@@ -2,7 +2,7 @@ use Rattle.std.proofs.Common.{◌<◌, [], All, sym, ap, ◌∙◌, subst, arith
 use Rattle.claim_board.specs.declared.view.Key.{Key}
 use Rattle.claim_board.specs.Views.{opening, told}
 use Rattle.claim_board.specs.Steps.{Sat}
-use Rattle.claim_board.proofs.Seats.{opens, names}
+use Rattle.claim_board.proofs.Seats.{names}
 use Rattle.claim_board.proofs.board.Board.new.Goals as goal
 
 pub load-requires : goal.load-requires
