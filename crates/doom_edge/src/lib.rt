@@ -2,14 +2,22 @@
 //! workers, the counter of steps, and the one answer for want of memory.
 #![tactic(auto)]
 
+mod calls;
+mod counts;
 mod gate;
+mod mem_shelf;
+mod mem_sink;
 mod memory;
 mod shelf;
 mod sink;
 mod steps;
+mod sure_sink;
 
 pub use gate::{Gate, NoGate};
+pub use mem_shelf::MemShelf;
+pub use mem_sink::MemSink;
 pub use memory::Memory;
 pub use shelf::{PutFault, Shelf, TakeFault};
 pub use sink::{PushFault, Sink};
 pub use steps::Steps;
+pub use sure_sink::SureSink;
