@@ -18,5 +18,5 @@ abbrev pub counted : Calls → Bool → Calls
 counted calls failed = record {
   failing = calls.failing;
   made = raised calls.made 1;
-  faults = if failed then raised calls.faults 1 else calls.faults
+  faults = if failed then raised calls.faults 1 else calls.faults;
 }

@@ -39,10 +39,10 @@ IsSure shelf = (shelf.takes.failing ≡ []) × (shelf.puts.failing ≡ [])
 -- as a pair of pairs
 abbrev pub calls_code : Coded Calls
 calls_code = code_by (List ℕ × (ℕ × ℕ)) (coded× (coded_list coded_ℕ) (coded× coded_ℕ coded_ℕ))
-  (λ calls. (calls.failing, (calls.made, calls.faults)))
-  (λ p. record { failing = p.0; made = p.1.0; faults = p.1.1 }) (λ _. refl)
+    (λ calls. (calls.failing, (calls.made, calls.faults)))
+    (λ p. record { failing = p.0; made = p.1.0; faults = p.1.1 }) (λ _. refl)
 
 abbrev pub shelved_code : Coded Shelved
 shelved_code = code_by (Files × (Calls × Calls)) (coded× (finite.code (coded_list coded_ℕ) (coded_list coded_ℕ)) (coded× calls_code calls_code))
-  (λ shelf. (shelf.files, (shelf.takes, shelf.puts)))
-  (λ p. record { files = p.0; takes = p.1.0; puts = p.1.1 }) (λ _. refl)
+    (λ shelf. (shelf.files, (shelf.takes, shelf.puts)))
+    (λ p. record { files = p.0; takes = p.1.0; puts = p.1.1 }) (λ _. refl)

@@ -3,7 +3,7 @@ ghost use Rattle.std.specs.Prelude.{◌≡◌, ◌≤◌, true};
 ghost use Rattle.doom_edge.specs.Counts.{Rose};
 ghost use Rattle.doom_edge.specs.Calls.{fails, counted};
 
-use crate::counts::raise;
+use crate::counts::{add_fault, raise};
 use std::marker::Model;
 
 #[derive(Drop)]
@@ -40,7 +40,6 @@ impl Calls {
     }
 
     // Counts a call.
-    #[tactic(auto, unfolding(crate::specs::Counts::raised))]
     pub(crate) fn count(&mut self, failed: bool)
         ensures counted { self.new ≡ counted self.old failed }
         ensures rose { failed ≡ true → Rose self.old.faults self.new.faults }
@@ -48,7 +47,7 @@ impl Calls {
     {
         self.made = raise(self.made, 1);
         if failed {
-            self.faults = raise(self.faults, 1);
+            self.faults = add_fault(self.faults);
         }
     }
 }

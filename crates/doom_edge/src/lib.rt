@@ -4,19 +4,24 @@
 
 mod calls;
 mod counts;
+mod file_shelf;
 mod gate;
 mod mem_shelf;
 mod mem_sink;
 mod memory;
+mod out_sink;
+mod save;
 mod shelf;
 mod sink;
 mod steps;
 mod sure_sink;
 
+pub use file_shelf::FileShelf;
 pub use gate::{Gate, NoGate};
 pub use mem_shelf::MemShelf;
 pub use mem_sink::MemSink;
 pub use memory::Memory;
+pub use out_sink::OutSink;
 pub use shelf::{PutFault, Shelf, TakeFault};
 pub use sink::{PushFault, Sink};
 pub use steps::Steps;

@@ -35,9 +35,9 @@ impl MemShelf {
     /// the first entry counts.
     pub fn new(files: Vec<(String, Vec<u8>)>, fail_takes: Vec<u64>, fail_puts: Vec<u64>) -> MemShelf
         ensures { result ≡ record {
-            files = files_of files.items;
-            takes = record { failing = fail_takes.items; made = 0; faults = 0 };
-            puts = record { failing = fail_puts.items; made = 0; faults = 0 }
+          files = files_of files.items;
+          takes = record { failing = fail_takes.items; made = 0; faults = 0 };
+          puts = record { failing = fail_puts.items; made = 0; faults = 0 };
         } }
     {
         MemShelf {

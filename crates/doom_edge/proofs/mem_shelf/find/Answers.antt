@@ -13,8 +13,8 @@ pub returns-then-eq : goal.returns-then-eq
 returns-then-eq c =
     let same = ap (bytes_eq c.args.name.now) (sym c.as_str.ensures.value) ∙ sym c.eq.ensures ∙ c.if-eq.true in
     rw c.as_slice.ensures.value (
-        found c.args.name.now c.args.files.now c.loop-held.held-index c.loop-held-item.result c.loop-held-test.true c.loop-held-item.is same
-        ∙ c.loop-held.invariant)
+    found c.args.name.now c.args.files.now c.loop-held.held-index c.loop-held-item.result c.loop-held-test.true c.loop-held-item.is same
+    ∙ c.loop-held.invariant)
 
 pub returns : goal.returns
 returns c =
