@@ -26,3 +26,6 @@ pub use shelf::{PutFault, Shelf, TakeFault};
 pub use sink::{PushFault, Sink};
 pub use steps::Steps;
 pub use sure_sink::SureSink;
+
+#[cfg(test)]
+mod tests;
