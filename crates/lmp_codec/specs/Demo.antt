@@ -1,9 +1,10 @@
 -- What a demo is, as a relation on whole texts, and what is wrong with a text that is none.
-use Rattle.std.specs.Prelude.{ℕ, ◌<◌, ◌≤◌, ◌^◌, ◌≡◌, ◌≢◌, ◌++◌, List, [], ◌∷◌, length, IsTrue, Some, slice_get, slice_index, FitsSigned, false}
+use Rattle.std.specs.Prelude.{ℕ, ◌<◌, ◌≤◌, ◌^◌, ◌≡◌, ◌≢◌, ◌++◌, List, [], ◌∷◌, length, IsTrue, Some, Result, Ok, Err, slice_get, slice_index, FitsSigned, false}
 use Rattle.std.specs.Int.{cast_unsigned, w8}
 use Rattle.std.specs.List.{flat_map, AllByRecursion}
 use Rattle.lmp_codec.specs.Header.{header_len, may_stand, IsHeader}
 use Rattle.lmp_codec.specs.declared.input.Tic.{Tic}
+use Rattle.lmp_codec.specs.declared.whole.Demo.{Demo}
 use Rattle.lmp_codec.specs.declared.fault.DemoFault.{DemoFault}
 use Rattle.lmp_codec.specs.declared.fault.DemoFault.TheVariants.{DemoVersion, DemoHead, DemoCut, DemoLong, Memory}
 
@@ -75,3 +76,8 @@ IsFault text (DemoHead place) = (0 < place) × BreaksHeader text place
 IsFault text (DemoCut len) = (length text ≡ len) × IsCut text
 IsFault text DemoLong = IsLong text
 IsFault text Memory = ⊥
+
+-- the right verdict on a text: a demo that it is, or the fault that it has
+abbrev pub IsVerdict : List ℕ → Result Demo DemoFault → Type 0
+IsVerdict text (Ok demo) = IsDemo text demo.header demo.tics
+IsVerdict text (Err fault) = IsFault text fault

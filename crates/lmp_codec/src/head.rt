@@ -1,4 +1,4 @@
-ghost use Rattle.std.specs.Prelude.{◌≡◌, slice_index};
+ghost use Rattle.std.specs.Prelude.{◌≡◌, ◌≤◌, slice_index};
 ghost use Rattle.lmp_codec.specs.Header.{IsHeader};
 
 use std::marker::Model;
@@ -26,9 +26,18 @@ impl Model for Header {
 }
 
 impl Header {
+    /// The header of these bytes.
+    pub(crate) fn from_bytes(bytes: [u8; HEADER_LEN]) -> Self
+        requires { IsHeader bytes }
+        ensures { result ≡ bytes }
+    {
+        Header { bytes }
+    }
+
     /// The skill level, 0 to 4.
     pub fn skill(&self) -> u8
         ensures value { result ≡ slice_index self.now 1 }
+        ensures range { result ≤ 4 }
         ensures valid { IsHeader self.now }
     {
         self.bytes[1]
@@ -37,6 +46,7 @@ impl Header {
     /// The episode, 1 to 9.
     pub fn episode(&self) -> u8
         ensures value { result ≡ slice_index self.now 2 }
+        ensures range { (1 ≤ result) × (result ≤ 9) }
         ensures valid { IsHeader self.now }
     {
         self.bytes[2]
@@ -45,6 +55,7 @@ impl Header {
     /// The map, 1 to 99.
     pub fn map(&self) -> u8
         ensures value { result ≡ slice_index self.now 3 }
+        ensures range { (1 ≤ result) × (result ≤ 99) }
         ensures valid { IsHeader self.now }
     {
         self.bytes[3]

@@ -7,9 +7,18 @@
 mod fault;
 mod head;
 mod input;
+pub mod laws;
+mod read;
+mod spell;
 mod whole;
+mod write;
 
 pub use fault::{DemoFault, Memory};
 pub use head::Header;
 pub use input::Tic;
+pub use read::read_demo;
 pub use whole::{Demo, Tics};
+pub use write::write_demo;
+
+#[cfg(test)]
+mod tests;
