@@ -1,10 +1,10 @@
 -- The header at the front of a text: whole, cut, or with a byte that breaks its rule.
-use Rattle.std.proofs.Common.{ℕ, zero, suc, ◌+◌, ◌-◌, ◌<◌, ◌≤◌, ◌≡◌, ◌≢◌, ◌++◌, ◌⊎◌, inl, inr, List, [], ◌∷◌, length, take, drop, get_or, slice_index, IsTrue, Bool, true, false, arith, ap, refl, subst, sym, ◌∙◌, append_assoc, Some, None}
+use Rattle.std.proofs.Common.{ℕ, zero, suc, ◌+◌, ◌-◌, ◌<◌, ◌≤◌, ◌≡◌, ◌≢◌, ◌++◌, ◌⊎◌, inl, inr, List, [], ◌∷◌, length, drop, slice_index, IsTrue, true, arith, ap, refl, subst, sym, ◌∙◌, append_assoc, Some}
 use Rattle.std.specs.List.{flat_map, slice_get}
 use Rattle.std.proofs.lemmas.List.{get_or_append_left, get_or-append_right, get_or-drop, length-drop, length-append, append-nil}
 use Rattle.std.proofs.lemmas.Bool.{agree_below_at, cases_Bool, cases_lt, both_ways, eqb-true}
 use Rattle.lmp_codec.specs.Header.{IsHeader, may_stand, header_len}
-use Rattle.lmp_codec.specs.Demo.{tic_bytes, end_byte, most_tics, IsDemo, IsCut, IsLong, BreaksHeader, written}
+use Rattle.lmp_codec.specs.Demo.{tic_bytes, end_byte, IsDemo, IsCut, IsLong, BreaksHeader}
 use Rattle.lmp_codec.specs.declared.input.Tic.{Tic}
 use Rattle.lmp_codec.proofs.Progress.{not_empty}
 

@@ -1,5 +1,5 @@
 -- A tic and its four bytes determine each other.
-use Rattle.std.proofs.Common.{ℕ, ◌<◌, ◌≡◌, ◌≢◌, List, [], ◌∷◌, arith, subst, ap, refl, sym, ◌∙◌, FitsSigned, ℤ, pos, negsuc, ◌≤ℤ◌}
+use Rattle.std.proofs.Common.{ℕ, ◌<◌, ◌≡◌, ◌≢◌, [], ◌∷◌, arith, subst, ap, sym, ◌∙◌, FitsSigned, ℤ, pos, negsuc, ◌≤ℤ◌}
 use Rattle.std.specs.Int.{cast_unsigned, cast_signed, w8}
 use Rattle.std.proofs.lemmas.Int.{ints, to_z-of_z, of_z-to_z}
 use Rattle.std.proofs.Props.{props}

@@ -1,9 +1,9 @@
 -- Each text of bytes has one verdict.
-use Rattle.std.proofs.Common.{ℕ, zero, suc, ◌+◌, ◌<◌, ◌≤◌, ◌≡◌, ◌≢◌, ◌++◌, ◌⊎◌, inl, inr, List, [], ◌∷◌, length, take, drop, slice_index, IsTrue, Bool, true, false, arith, ap, refl, subst, sym, ◌∙◌, append_assoc, Some, None, Result, Ok, Err, min}
+use Rattle.std.proofs.Common.{ℕ, zero, suc, ◌+◌, ◌<◌, ◌≤◌, ◌≡◌, ◌≢◌, ◌++◌, ◌⊎◌, inl, inr, List, [], ◌∷◌, length, take, drop, slice_index, arith, ap, refl, subst, sym, ◌∙◌, append_assoc, Some, Result, Ok, Err}
 use Rattle.std.specs.List.{flat_map, AllByRecursion, slice_get}
 use Rattle.std.specs.Int.{cast_unsigned, w8}
-use Rattle.std.proofs.lemmas.List.{take_at, drop_at, length-take, length-take-le, get_or-take, append-nil, get_or_append_left}
-use Rattle.std.proofs.lemmas.Bool.{cases_lt, cases_Bool, eqb-true, both_ways}
+use Rattle.std.proofs.lemmas.List.{take_at, drop_at, length-take, length-take-le, get_or-take, append-nil}
+use Rattle.std.proofs.lemmas.Bool.{cases_lt, eqb-true, both_ways}
 use Rattle.std.proofs.lemmas.Bool.Decides.{eqb_tells}
 use Rattle.lmp_codec.specs.Header.{IsHeader, may_stand, header_len}
 use Rattle.lmp_codec.specs.Demo.{tic_bytes, end_byte, most_tics, FitsBytes, IsDemo, IsCut, IsLong, BreaksHeader, IsFault, IsVerdict, written, MayBeWritten}
@@ -12,8 +12,8 @@ use Rattle.lmp_codec.specs.declared.whole.Demo.{Demo}
 use Rattle.lmp_codec.specs.declared.fault.DemoFault.{DemoFault}
 use Rattle.lmp_codec.specs.declared.fault.DemoFault.TheVariants.{DemoVersion, DemoHead, DemoCut, DemoLong, Memory}
 use Rattle.lmp_codec.proofs.Spelling.{never_end, same_tic}
-use Rattle.lmp_codec.proofs.Progress.{AreBytes, ReadSoFar, demo_here, long_here, cut_at_end, cut_within, read_on, not_empty}
-use Rattle.lmp_codec.proofs.Fronts.{KeepsRules, header_cut, search_break, Opens, opens_keeps, demo_opens, cut_opens, long_opens, opens_unbroken, opens_version}
+use Rattle.lmp_codec.proofs.Progress.{AreBytes, ReadSoFar, demo_here, long_here, cut_at_end, cut_within, read_on}
+use Rattle.lmp_codec.proofs.Fronts.{KeepsRules, header_cut, search_break, demo_opens, cut_opens, long_opens, opens_unbroken, opens_version}
 
 -- ---- no two verdicts
 

@@ -49,7 +49,8 @@ fn header_of(text: &[u8]) -> Result<Header, DemoFault>
     ensures valid { IfOk result IsHeader }
     ensures fault { IfErr result (IsFault text.now) }
 {
-    for place in 0..text.len().min(HEADER_LEN) {
+    let len = text.len();
+    for place in 0..len.min(HEADER_LEN) {
         let byte = text[place];
         if !may_stand(place, byte) {
             return Err(broken(place, byte));
@@ -57,7 +58,7 @@ fn header_of(text: &[u8]) -> Result<Header, DemoFault>
     }
     match text.first_chunk::<HEADER_LEN>() {
         Some(bytes) => Ok(Header::from_bytes(*bytes)),
-        None => Err(DemoFault::DemoCut(text.len())),
+        None => Err(DemoFault::DemoCut(len)),
     }
 }
 

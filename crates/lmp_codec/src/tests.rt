@@ -123,17 +123,13 @@ fn the_first_fault_from_the_left_is_answered(rt: HostRuntime) -> Result<(), Fail
 #[test]
 fn a_demo_shows_its_header_and_tics(rt: HostRuntime) -> Result<(), Fail> {
     let alloc = rt.alloc();
-    let bytes = text(
-        alloc,
-        &[0x6d, 4, 9, 99, 0, 1, 1, 2, 0, 3, 0, 0, 0],
-        0,
-        &[0x81, 0xff, 3, 2, 0x80],
-    )?;
+    let header = [0x6d, 4, 9, 99, 0, 1, 1, 2, 0, 3, 0, 0, 0];
+    let bytes = text(alloc, &header, 0, &[0x81, 0xff, 3, 2, 0x80])?;
     let demo = read_demo(alloc, &bytes).ok().ok_or("a demo")?;
     assert_eq!(rt; demo.header.skill(), 4);
     assert_eq!(rt; demo.header.episode(), 9);
     assert_eq!(rt; demo.header.map(), 99);
-    assert_eq!(rt; demo.header.bytes(), &bytes[..13]);
+    assert_eq!(rt; demo.header.bytes(), header.as_slice());
     let tics = demo.tics.into_list();
     assert_eq!(rt; tics.len(), 1);
     assert_eq!(rt; Some(tics[0]), Tic::new(-127, -1, 3, 2));

@@ -1,5 +1,4 @@
-use Rattle.std.proofs.Common.{arith, refl, sym, ◌<◌, ◌≤◌, ◌≡◌, length, take, subst, List, ℕ}
-use Rattle.lmp_codec.specs.Header.{IsHeader}
+use Rattle.std.proofs.Common.{arith, refl, ◌<◌, ◌≤◌, ◌≡◌, length, take}
 use Rattle.lmp_codec.proofs.Fronts.{header_cut}
 use Rattle.lmp_codec.proofs.Verdicts.{front_valid}
 use Rattle.lmp_codec.proofs.read.header_of.Goals as goal

@@ -1,4 +1,4 @@
-use Rattle.std.proofs.Common.{arith, ◌+◌, ◌-◌, ◌≤◌, length}
+use Rattle.std.proofs.Common.{arith}
 use Rattle.std.proofs.lemmas.List.{length-take, length-drop}
 use Rattle.lmp_codec.proofs.Progress.{tic_further}
 use Rattle.lmp_codec.proofs.spell.tic_at.Goals as goal
