@@ -1,5 +1,5 @@
 -- The script of a text: the commands of its lines, or the first fault in them.
-use Rattle.std.specs.Prelude.{◌≡◌, ℕ, Bool, nat_eq, List, [], ◌∷◌, ◌++◌, codes, if◌then◌else◌, Result, Ok, Err, Option, Some, None}
+use Rattle.std.specs.Prelude.{◌≡◌, ℕ, Bool, nat_eq, List, [], ◌∷◌, codes, if◌then◌else◌, Result, Ok, Err, Option, Some, None}
 use Rattle.std.specs.List.{starts_with, enumerate_from, filter_map}
 use Rattle.std.specs.Str.Lines.{lines}
 use Rattle.build_script.specs.declared.fault.Kind.{Kind}

@@ -9,29 +9,37 @@ use crate::numbers::{Bounds, number_within};
 use crate::text::Words;
 use lmp_codec::Tic;
 
+/// The most tics that a session may have.
+const MOST_TICS: i64 = 1_000_000;
+
 const PLACE: Bounds = Bounds {
     least: 0,
-    greatest: 1_000_000,
+    greatest: MOST_TICS,
 };
+
 const FORWARD: Bounds = Bounds {
     least: -127,
     greatest: 127,
 };
+
 const SIDE: Bounds = Bounds {
     least: -128,
     greatest: 127,
 };
+
 const TURN: Bounds = Bounds {
     least: -128,
     greatest: 255,
 };
+
 const BUTTONS: Bounds = Bounds {
     least: 0,
     greatest: 255,
 };
+
 const COUNT: Bounds = Bounds {
     least: 1,
-    greatest: 1_000_000,
+    greatest: MOST_TICS,
 };
 
 /// The number that the next word spells.

@@ -8,7 +8,7 @@ returns-in-insert c =
     rw text refl
 
 pub returns-in-delete : goal.returns-in-delete
-returns-in-delete c = 
+returns-in-delete c =
     let text : c.args.word.now ≡ codes "delete" = text_from_reads c.args.word.now (codes "delete") (omega arith) (search rules) in
     rw text refl
 

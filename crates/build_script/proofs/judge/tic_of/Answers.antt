@@ -1,4 +1,4 @@
-use Rattle.std.proofs.Common.{◌≡◌, ◌∙◌, ap, rules, ℤ, pos, FitsSigned, to_z, of_z, w64, to_z-of_z, nat_abs}
+use Rattle.std.proofs.Common.{◌≡◌, ◌∙◌, ap, rules, pos, FitsSigned, to_z, of_z, w64, to_z-of_z, nat_abs}
 use Rattle.std.specs.Int.{int_rem_euclid}
 use Rattle.build_script.specs.Tics.{tic_of}
 use Rattle.build_script.proofs.TicLemmas.{same_tic, forward_byte, side_byte}

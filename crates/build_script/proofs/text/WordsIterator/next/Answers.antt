@@ -1,7 +1,7 @@
-use Rattle.std.proofs.Common.{◌≡◌, ◌∙◌, sym, rules, not, Some, None, [], ◌∷◌, ◌-◌, length, take, drop}
+use Rattle.std.proofs.Common.{◌≡◌, ◌∙◌, sym, rules, not, Some, None, [], ◌-◌, length, take, drop}
 use Rattle.std.specs.List.{position, position_or_len}
 use Rattle.std.proofs.lemmas.List.{take_rest}
-use Rattle.build_script.specs.Text.{words, is_blank}
+use Rattle.build_script.specs.Text.{is_blank}
 use Rattle.build_script.proofs.TextLemmas.{no_word, first_word}
 use Rattle.build_script.proofs.text.WordsIterator.next.Goals as goal
 
