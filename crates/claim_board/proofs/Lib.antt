@@ -1,0 +1,5 @@
+pub mod Sums
+pub mod Blocks
+pub mod Keeps
+pub mod Seats
+pub mod Marked
