@@ -1,13 +1,12 @@
 -- Edits of a list at a place are edits of its two parts.
-use Rattle.std.proofs.Common.{ℕ, ◌+◌, ◌-◌, ◌<◌, ◌≤◌, ◌≡◌, ◌≢◌, ◌++◌, ◌&&◌, List, [], ◌∷◌, length, take, drop, get_or, replicate, Bool, true, false, cond, arith, ap, refl, sym, ◌∙◌, append_assoc, add-one, Option, None, Some, Result, Ok, Err, slice_get, nat_eq, nat_lt, nat_le}
-use Rattle.std.proofs.lemmas.List.{take_at, drop_at, drop-drop, length-take, length-take-le, length-drop, length-append, length_push, length-replicate, take-append-drop, set_split, get_or-take}
-use Rattle.std.proofs.lemmas.Bool.{false_from_ne_true, leb-true, ltb-true, eqb-true, cases_Bool}
-use Rattle.std.proofs.lemmas.Option.{slice_get_cases, slice_get-get_or, get_or_from_slice_get}
+use Rattle.std.proofs.Common.{ℕ, ◌+◌, ◌-◌, ◌<◌, ◌≤◌, ◌≡◌, ◌++◌, ◌&&◌, List, [], ◌∷◌, length, take, drop, get_or, replicate, Bool, true, false, cond, arith, ap, refl, sym, ◌∙◌, append_assoc, Some, Ok, slice_get, nat_eq, nat_lt, nat_le}
+use Rattle.std.proofs.lemmas.List.{take_at, drop_at, drop-drop, length-take-le, length-append, length_push, length-replicate, take-append-drop, get_or-take}
+use Rattle.std.proofs.lemmas.Bool.{false_from_ne_true, leb-true, ltb-true, eqb-true}
+use Rattle.std.proofs.lemmas.Option.{slice_get-get_or}
 use Rattle.lmp_codec.specs.Demo.{most_tics}
 use Rattle.lmp_codec.specs.declared.input.Tic.{Tic}
-use Rattle.build_edits.specs.Parts.{Parts, all_tics, parts_at}
-use Rattle.build_edits.specs.Edits.{Outcome, put_outcome, insert_outcome, repeat_outcome, copies, last_of}
-use Rattle.build_edits.specs.declared.fault.EditFault.{EditFault}
+use Rattle.build_edits.specs.Parts.{Parts, parts_at}
+use Rattle.build_edits.specs.Edits.{put_outcome, insert_outcome, repeat_outcome, copies, last_of}
 
 -- a list is cut behind its front
 cut_behind : (list front back : List Tic) (place : ℕ) → list ≡ front ++ back → length front ≡ place → (let these : Parts = record { before = front; after = back } in these) ≡ parts_at list place
