@@ -157,3 +157,8 @@ IfTry ask P = Unit {0}
 abbrev pub IfPost : Ask → (ℕ → Type 0) → Type 0
 IfPost (asks.Post k) P = P k
 IfPost ask P = Unit {0}
+
+-- the hand is to try a number
+abbrev pub IsTry : Phase → Type 0
+IsTry (phases.Try k) = Unit {0}
+IsTry phase = ⊥

@@ -49,6 +49,7 @@ pub enum Phase {
 }
 
 /// A hand of the search. Contracts see it as a `Standing`.
+#[derive(Clone, Copy, Debug)]
 pub struct Hand {
     count: u64,
     block: u64,

@@ -10,5 +10,7 @@
 #![tactic(auto)]
 
 mod hand;
+mod machine;
 
 pub use hand::{Answer, Ask, Hand, Phase};
+pub use machine::{Core, Memory, Turn};
