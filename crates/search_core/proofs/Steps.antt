@@ -12,8 +12,8 @@ use Rattle.search_core.specs.declared.hand.Phase.{Phase}
 use Rattle.search_core.specs.declared.hand.Phase.TheVariants as phases
 use Rattle.search_core.specs.declared.hand.Answer.TheVariants as answers
 use Rattle.search_core.specs.declared.machine.Turn.TheVariants as turns
-use Rattle.search_core.specs.Hand.{Standing, fresh, told, block_count, start_at, end_at, open_end, IsHand, InOpen, FitsPhase, AheadIn, IsAhead, PostsIn, PostsMet}
-use Rattle.search_core.specs.Machine.{Machine, hand_at, turned, turned_in, turn_in, tried, step, run, Covers, IsAwaited, IsMachine, IsHandOf, work, work_of, ended_in, has_ended, AllOver, IsMeets, Fits, is_in, first_of}
+use Rattle.search_core.specs.Hand.{Standing, fresh, told, block_count, start_at, end_at, open_end, IsHand, InOpen, FitsPhase, AheadIn, IsAhead, PostsIn, PostsMet, IsTry, number_in}
+use Rattle.search_core.specs.Machine.{Machine, hand_at, turned, turned_in, turn_in, verdict, tried, step, run, Covers, IsAwaited, IsMachine, IsHandOf, work, work_of, ended_in, has_ended, AllOver, IsMeets, Fits, is_in, first_of}
 
 -- one hand is put in another's place: the others keep what they have ahead of them
 pub covers-set : (core : Machine) (i next least : ℕ) (hand : Standing) (left : ℕ → Bool) → i < length core.hands → least ≤ core.least
@@ -434,3 +434,141 @@ over-first core meets sound over fits =
             elim (first_is_in core.count meets) [
                 inl whole ↦ omega (arith, first.0, first.1, whole)
               | inr other ↦ let least = below (first_of core.count meets) other in omega (arith, first.0, least) ] ]
+
+-- what a step keeps
+pub record Keeps (core now : Machine) : Type 0 where
+  pub sound : IsMachine now
+  pub fits : (meets : List ℕ) → Fits meets core → Fits meets now
+  pub covers : (left : ℕ → Bool) → Covers left core → Covers left now
+
+count-turned : (core : Machine) (i : ℕ) → (turned core i).count ≡ core.count
+count-turned core i = by_phase (hand_at core i).phase
+  where
+    by_phase : (p : Phase) → (turned_in core i (hand_at core i) p).count ≡ core.count
+    by_phase phases.Claim = refl
+    by_phase (phases.Look k) = refl
+    by_phase (phases.Try k) = refl
+    by_phase (phases.Post k) = refl
+    by_phase phases.Over = refl
+
+pub keeps-turned : (core : Machine) (i : ℕ) → IsMachine core → i < length core.hands → Keeps core (turned core i)
+keeps-turned core i sound within = record {
+    sound = machine-turned core i sound within;
+    fits = λ meets fits. record {
+        list = rw (count-turned core i) fits.list;
+        least = least-turned core i (is_in meets) within fits.posts fits.least;
+        posts = posts-turned core i (is_in meets) sound within fits.posts;
+        covers = covers-turned core i (is_in meets) sound within fits.covers;
+      };
+    covers = λ left covers. covers-turned core i left sound within covers;
+  }
+
+-- the same of the machine that the code makes in each arm
+same_hand : (core : Machine) (i : ℕ) (hand : Standing) → i < length core.hands → hand ≡ get_or core.hands i hand → hand ≡ hand_at core i
+same_hand core i hand within is = is ∙ get_or_default core.hands i hand (fresh core.count core.block) within
+
+keeps-claim : (core : Machine) (i : ℕ) (read hand told_hand : Standing) → IsMachine core → i < length core.hands
+    → read ≡ get_or core.hands i read → read.phase ≡ phases.Claim → hand ≡ get_or core.hands i hand → told_hand ≡ told hand (answers.Block core.next)
+    → Keeps core (record core { next = core.next + 1; hands = set core.hands i told_hand })
+keeps-claim core i read hand told_hand sound within reads e is tells =
+    let phase : (hand_at core i).phase ≡ phases.Claim = ap (λ (h : Standing). h.phase) (sym (same_hand core i read within reads)) ∙ e in
+    let now : turned core i ≡ record core { next = core.next + 1; hands = set core.hands i told_hand } =
+        rw phase (ap (λ (h : Standing). record core { next = core.next + 1; hands = set core.hands i h }) (ap (λ (h : Standing). told h (answers.Block core.next)) (sym (same_hand core i hand within is)) ∙ sym tells)) in
+    subst (λ (m : Machine). Keeps core m) now (keeps-turned core i sound within)
+
+keeps-look : (core : Machine) (i k : ℕ) (read hand told_hand : Standing) → IsMachine core → i < length core.hands
+    → read ≡ get_or core.hands i read → read.phase ≡ phases.Look k → hand ≡ get_or core.hands i hand → told_hand ≡ told hand (answers.Least core.least)
+    → Keeps core (record core { hands = set core.hands i told_hand })
+keeps-look core i k read hand told_hand sound within reads e is tells =
+    let phase : (hand_at core i).phase ≡ phases.Look k = ap (λ (h : Standing). h.phase) (sym (same_hand core i read within reads)) ∙ e in
+    let now : turned core i ≡ record core { hands = set core.hands i told_hand } =
+        rw phase (ap (λ (h : Standing). record core { hands = set core.hands i h }) (ap (λ (h : Standing). told h (answers.Least core.least)) (sym (same_hand core i hand within is)) ∙ sym tells)) in
+    subst (λ (m : Machine). Keeps core m) now (keeps-turned core i sound within)
+
+keeps-post : (core : Machine) (i k least : ℕ) (read hand told_hand : Standing) → IsMachine core → i < length core.hands
+    → read ≡ get_or core.hands i read → read.phase ≡ phases.Post k → hand ≡ get_or core.hands i hand → told_hand ≡ told hand (answers.Least core.least)
+    → least ≡ min core.least k → Keeps core (record core { least = least; hands = set core.hands i told_hand })
+keeps-post core i k least read hand told_hand sound within reads e is tells lowers =
+    let phase : (hand_at core i).phase ≡ phases.Post k = ap (λ (h : Standing). h.phase) (sym (same_hand core i read within reads)) ∙ e in
+    let now : turned core i ≡ record core { least = min core.least k; hands = set core.hands i told_hand } =
+        rw phase (ap (λ (h : Standing). record core { least = min core.least k; hands = set core.hands i h }) (ap (λ (h : Standing). told h (answers.Least core.least)) (sym (same_hand core i hand within is)) ∙ sym tells)) in
+    subst (λ (n : ℕ). Keeps core (record core { least = n; hands = set core.hands i told_hand })) (sym lowers)
+        (subst (λ (m : Machine). Keeps core m) now (keeps-turned core i sound within))
+
+-- the same of the value that a method was called with, which its fields are seen as
+pub claims : (old core : Machine) (i : ℕ) (read hand told_hand : Standing) → core ≡ old → IsMachine core → i < length old.hands
+    → read ≡ get_or core.hands i read → read.phase ≡ phases.Claim → hand ≡ get_or core.hands i hand → told_hand ≡ told hand (answers.Block core.next)
+    → Keeps old (record core { next = core.next + 1; hands = set core.hands i told_hand })
+claims old core i read hand told_hand same sound within reads e is tells =
+    subst (λ (m : Machine). i < length m.hands → Keeps m (record core { next = core.next + 1; hands = set core.hands i told_hand })) same
+        (λ h. keeps-claim core i read hand told_hand sound h reads e is tells) within
+
+pub looks : (old core : Machine) (i k : ℕ) (read hand told_hand : Standing) → core ≡ old → IsMachine core → i < length old.hands
+    → read ≡ get_or core.hands i read → read.phase ≡ phases.Look k → hand ≡ get_or core.hands i hand → told_hand ≡ told hand (answers.Least core.least)
+    → Keeps old (record core { hands = set core.hands i told_hand })
+looks old core i k read hand told_hand same sound within reads e is tells =
+    subst (λ (m : Machine). i < length m.hands → Keeps m (record core { hands = set core.hands i told_hand })) same
+        (λ h. keeps-look core i k read hand told_hand sound h reads e is tells) within
+
+pub posts : (old core : Machine) (i k least : ℕ) (read hand told_hand : Standing) → core ≡ old → IsMachine core → i < length old.hands
+    → read ≡ get_or core.hands i read → read.phase ≡ phases.Post k → hand ≡ get_or core.hands i hand → told_hand ≡ told hand (answers.Least core.least)
+    → least ≡ min core.least k → Keeps old (record core { least = least; hands = set core.hands i told_hand })
+posts old core i k least read hand told_hand same sound within reads e is tells lowers =
+    subst (λ (m : Machine). i < length m.hands → Keeps m (record core { least = least; hands = set core.hands i told_hand })) same
+        (λ h. keeps-post core i k least read hand told_hand sound h reads e is tells lowers) within
+
+pub ends_first : (old core : Machine) (meets : List ℕ) → core ≡ old → IsMachine core → Fits meets old → AllOver old → core.least ≡ first_of old.count meets
+ends_first old core meets same sound =
+    subst (λ (m : Machine). Fits meets m → AllOver m → core.least ≡ first_of m.count meets) same (λ fits over. over-first core meets sound over fits)
+
+pub ends_covered : (old core : Machine) (left : ℕ → Bool) → core ≡ old → IsMachine core → Covers left old → AllOver old → (n : ℕ) → left n ≡ true → n < core.least → ⊥
+ends_covered old core left same sound =
+    subst (λ (m : Machine). Covers left m → AllOver m → (n : ℕ) → left n ≡ true → n < core.least → ⊥) same (λ covers over. none_covered core left sound over covers)
+
+-- and of a try that was answered
+pub fits-tried : (core : Machine) (i k : ℕ) (met : Bool) (meets : List ℕ) → i < length core.hands → (hand_at core i).phase ≡ phases.Try k
+    → met ≡ is_in meets k → Fits meets core → Fits meets (tried core i met)
+fits-tried core i k met meets within e says fits = record {
+    list = fits.list;
+    least = fits.least;
+    posts = posts-tried core i k met (is_in meets) within e (λ h. sym says ∙ h) fits.posts;
+    covers = covers-tried core i k met (is_in meets) within e (λ h. sym says ∙ h) fits.covers;
+  }
+
+pub try_phase : (p : Phase) → IsTry p → p ≡ phases.Try (number_in p)
+try_phase phases.Claim h = absurd h
+try_phase (phases.Look k) h = absurd h
+try_phase (phases.Try k) h = refl
+try_phase (phases.Post k) h = absurd h
+try_phase phases.Over h = absurd h
+
+tried_is : (core : Machine) (i : ℕ) (met : Bool) (hand told_hand : Standing) → i < length core.hands → hand ≡ get_or core.hands i hand → told_hand ≡ told hand (verdict met)
+    → tried core i met ≡ record core { hands = set core.hands i told_hand }
+tried_is core i met hand told_hand within is tells =
+    ap (λ (h : Standing). record core { hands = set core.hands i h }) (ap (λ (h : Standing). told h (verdict met)) (sym (same_hand core i hand within is)) ∙ sym tells)
+
+pub tries_sound : (old core : Machine) (i : ℕ) (met : Bool) (hand told_hand : Standing) → core ≡ old → IsMachine core → i < length old.hands → IsTry (hand_at old i).phase
+    → hand ≡ get_or core.hands i hand → told_hand ≡ told hand (verdict met) → IsMachine (record core { hands = set core.hands i told_hand })
+tries_sound old core i met hand told_hand same sound =
+    subst (λ (m : Machine). i < length m.hands → IsTry (hand_at m i).phase → hand ≡ get_or core.hands i hand → told_hand ≡ told hand (verdict met)
+        → IsMachine (record core { hands = set core.hands i told_hand })) same
+        (λ within tries is tells. subst (λ (m : Machine). IsMachine m) (tried_is core i met hand told_hand within is tells)
+            (machine-tried core i (number_in (hand_at core i).phase) met sound within (try_phase (hand_at core i).phase tries)))
+
+pub tries_fits : (old core : Machine) (i : ℕ) (met : Bool) (meets : List ℕ) (hand told_hand : Standing) → core ≡ old → i < length old.hands → IsTry (hand_at old i).phase
+    → hand ≡ get_or core.hands i hand → told_hand ≡ told hand (verdict met)
+    → met ≡ is_in meets (number_in (hand_at old i).phase) → Fits meets old → Fits meets (record core { hands = set core.hands i told_hand })
+tries_fits old core i met meets hand told_hand same =
+    subst (λ (m : Machine). i < length m.hands → IsTry (hand_at m i).phase → hand ≡ get_or core.hands i hand → told_hand ≡ told hand (verdict met)
+        → met ≡ is_in meets (number_in (hand_at m i).phase) → Fits meets m → Fits meets (record core { hands = set core.hands i told_hand })) same
+        (λ within tries is tells says fits. subst (λ (m : Machine). Fits meets m) (tried_is core i met hand told_hand within is tells)
+            (fits-tried core i (number_in (hand_at core i).phase) met meets within (try_phase (hand_at core i).phase tries) says fits))
+
+pub tries_covers : (old core : Machine) (i : ℕ) (met : Bool) (left : ℕ → Bool) (hand told_hand : Standing) → core ≡ old → i < length old.hands → IsTry (hand_at old i).phase
+    → hand ≡ get_or core.hands i hand → told_hand ≡ told hand (verdict met)
+    → (met ≡ false → left (number_in (hand_at old i).phase) ≡ false) → Covers left old → Covers left (record core { hands = set core.hands i told_hand })
+tries_covers old core i met left hand told_hand same =
+    subst (λ (m : Machine). i < length m.hands → IsTry (hand_at m i).phase → hand ≡ get_or core.hands i hand → told_hand ≡ told hand (verdict met)
+        → (met ≡ false → left (number_in (hand_at m i).phase) ≡ false) → Covers left m → Covers left (record core { hands = set core.hands i told_hand })) same
+        (λ within tries is tells misses covers. subst (λ (m : Machine). Covers left m) (tried_is core i met hand told_hand within is tells)
+            (covers-tried core i (number_in (hand_at core i).phase) met left within (try_phase (hand_at core i).phase tries) misses covers))

@@ -2,7 +2,7 @@
 
 ghost use Rattle.std.specs.Prelude.{◌≡◌, ℕ, ◌+◌, ◌*◌, ◌^◌, ◌<◌, ◌≤◌, ◌⊎◌, Bool, List, length, true, false, if◌then◌else◌, IfOk, IsTrue, ◌≢◌, replicate};
 ghost use Rattle.search_core.specs.Hand.{IsTry, number_in, fresh};
-ghost use Rattle.search_core.specs.Machine.{Machine, opening, hand_at, turned, turn_in, tried, AllOver, IsMachine, IsMeets, is_in, first_of, Covers, Fits, work, has_ended, IfTurnTries};
+ghost use Rattle.search_core.specs.Machine.{Machine, opening, hand_at, turned, turn_in, verdict, tried, AllOver, IsMachine, IsMeets, is_in, first_of, Covers, Fits, work, has_ended, IfTurnTries};
 
 use std::alloc::Global;
 use std::marker::Model;
@@ -58,6 +58,13 @@ fn new_hands(alloc: Global, count: u64, block: u64, hands: u32) -> Result<Vec<Ha
         made.push(Hand::new(count, block)).map_err(|_| Memory)?;
     }
     Ok(made)
+}
+
+/// What a hand is told of its try.
+fn verdict(met: bool) -> Answer
+    ensures { result ≡ verdict met }
+{
+    if met { Answer::Met } else { Answer::Missed }
 }
 
 impl Core {
@@ -135,8 +142,7 @@ impl Core {
         ensures covers { (left : ℕ → Bool) → (met ≡ false → left (number_in (hand_at self.old hand).phase) ≡ false) → Covers left self.old → Covers left self.new }
         ensures work { work self.new < work self.old }
     {
-        let answer = if met { Answer::Met } else { Answer::Missed };
-        self.hands[hand as usize].told(answer);
+        self.hands[hand as usize].told(verdict(met));
     }
 
     /// The least number that was posted, or the count.
