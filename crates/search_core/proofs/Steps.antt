@@ -441,7 +441,7 @@ pub record Keeps (core now : Machine) : Type 0 where
   pub fits : (meets : List ℕ) → Fits meets core → Fits meets now
   pub covers : (left : ℕ → Bool) → Covers left core → Covers left now
 
-count-turned : (core : Machine) (i : ℕ) → (turned core i).count ≡ core.count
+pub count-turned : (core : Machine) (i : ℕ) → (turned core i).count ≡ core.count
 count-turned core i = by_phase (hand_at core i).phase
   where
     by_phase : (p : Phase) → (turned_in core i (hand_at core i) p).count ≡ core.count

@@ -11,6 +11,8 @@
 
 mod hand;
 mod machine;
+mod order;
 
 pub use hand::{Answer, Ask, Hand, Phase};
 pub use machine::{Core, Memory, Turn};
+pub use order::{any_order, number_of_turns};
