@@ -97,11 +97,11 @@ taken-append : (meets : ℕ → Bool) (core : Machine) (a b : List ℕ) → take
 taken-append meets core [] b = sym (zero-add (taken meets core b))
 taken-append meets core (i ∷ a) b = let next = taken-append meets (step meets core i) a b in omega (arith, next)
 
-in_range-append : (core : Machine) (a b : List ℕ) → InRange core a → InRange core b → InRange core (a ++ b)
+pub in_range-append : (core : Machine) (a b : List ℕ) → InRange core a → InRange core b → InRange core (a ++ b)
 in_range-append core [] b h k = k
 in_range-append core (i ∷ a) b h k = (h.0, in_range-append core a b h.1 k)
 
-in_range-numbers : (core : Machine) (n i : ℕ) → i + n ≤ length core.hands → InRange core (numbers_from i n)
+pub in_range-numbers : (core : Machine) (n i : ℕ) → i + n ≤ length core.hands → InRange core (numbers_from i n)
 in_range-numbers core zero i h = tt
 in_range-numbers core (suc n) i h = (omega arith, in_range-numbers core n (i + 1) (omega arith))
 
@@ -157,7 +157,7 @@ no_work core none = All-from_get_or (λ hand. has_ended hand ≡ true) core.hand
     (λ i within. let least = get_or-le-sum_by work_of core.hands i (fresh core.count core.block) within in
         idle_ends (hand_at core i) (hand_at core i).phase (omega (arith, least)))
 
-all_over : (core : Machine) → ((k : ℕ) → k < length core.hands → is_over core k ≡ true) → AllOver core
+pub all_over : (core : Machine) → ((k : ℕ) → k < length core.hands → is_over core k ≡ true) → AllOver core
 all_over core h = All-from_get_or (λ hand. has_ended hand ≡ true) core.hands (fresh core.count core.block) h
 
 -- as many rounds as there is work end all hands
@@ -236,6 +236,13 @@ events-step meets core i order sound within h running =
 pub events-round : (meets : ℕ → Bool) (core : Machine) → IsMachine core → events meets core [] ≡ events meets core (numbers_from 0 (length core.hands))
 events-round meets core sound =
     sym (same_events meets core [] (suc (work core)) sound tt (ends_after meets core [] (suc (work core)) sound tt (omega arith)))
+
+-- a round after the order is one of those that follow it
+pub events-before_round : (meets : ℕ → Bool) (core : Machine) (order : List ℕ) → IsMachine core → InRange core order
+    → events meets core (order ++ numbers_from 0 (length core.hands)) ≡ events meets core order
+events-before_round meets core order sound h =
+    ap (taken meets core) (append_assoc order (numbers_from 0 (length core.hands)) (rounds (work core) (length core.hands)))
+        ∙ same_events meets core order (suc (work core)) sound h (ends_after meets core order (suc (work core)) sound h (omega arith))
 
 -- where all hands have ended no turn is left
 pub events-over : (meets : ℕ → Bool) (core : Machine) (order : List ℕ) → AllOver core → InRange core order → events meets core order ≡ 0

@@ -15,4 +15,4 @@ mod order;
 
 pub use hand::{Answer, Ask, Hand, Phase};
 pub use machine::{Core, Memory, Turn};
-pub use order::{any_order, number_of_turns};
+pub use order::{Schedule, Trial, any_order, number_of_turns};

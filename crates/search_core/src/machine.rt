@@ -2,6 +2,7 @@
 
 ghost use Rattle.std.specs.Prelude.{◌≡◌, ℕ, ◌+◌, ◌*◌, ◌^◌, ◌<◌, ◌≤◌, ◌⊎◌, Bool, List, length, true, false, if◌then◌else◌, IfOk, IsTrue, ◌≢◌, replicate};
 ghost use Rattle.search_core.specs.Hand.{IsTry, number_in, fresh};
+ghost use Rattle.search_core.specs.Order.{is_over};
 ghost use Rattle.search_core.specs.Machine.{Machine, opening, hand_at, turned, turn_in, verdict, tried, AllOver, IsMachine, IsMeets, is_in, first_of, Covers, Fits, work, has_ended, IfTurnTries};
 
 use std::alloc::Global;
@@ -143,6 +144,37 @@ impl Core {
         ensures work { work self.new < work self.old }
     {
         self.hands[hand as usize].told(verdict(met));
+    }
+
+    /// How many hands there are.
+    pub fn hands(&self) -> u32
+        ensures hands { result ≡ length self.now.hands }
+        ensures sound { IsMachine self.now }
+    {
+        self.hands.len() as u32
+    }
+
+    /// Whether a hand has ended.
+    pub fn is_over(&self, hand: u32) -> bool
+        requires { hand < length self.now.hands }
+        ensures { result ≡ is_over self.now hand }
+    {
+        self.hands[hand as usize].next() == Ask::Over
+    }
+
+    /// The first hand from `from` on that has not ended, or the number of hands.
+    pub fn running_from(&self, from: u32) -> u32
+        requires { from ≤ length self.now.hands }
+        ensures within { (from ≤ result) × (result ≤ length self.now.hands) }
+        ensures passed { (k : ℕ) → from ≤ k → k < result → is_over self.now k ≡ true }
+        ensures found { result < length self.now.hands → is_over self.now result ≡ false }
+    {
+        for hand in from..self.hands() {
+            if !self.is_over(hand) {
+                return hand;
+            }
+        }
+        self.hands()
     }
 
     /// The least number that was posted, or the count.
