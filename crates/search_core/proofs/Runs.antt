@@ -1,17 +1,17 @@
 -- Whole runs: what stays, that they end, and how many turns they take.
-use Rattle.std.proofs.Common.{zero, suc, add-one, zero-add, ◌≡◌, ◌≢◌, ℕ, ◌+◌, ◌-◌, ◌*◌, ◌^◌, ◌<◌, ◌≤◌, ◌⊎◌, Bool, true, false, cond, List, [], ◌∷◌, ◌++◌, length, get_or, set, refl, sym, ◌∙◌, ap, subst, inl, inr, arith, length-set, append_assoc}
+use Rattle.std.proofs.Common.{zero, suc, zero-add, ◌≡◌, ℕ, ◌+◌, ◌*◌, ◌^◌, ◌<◌, ◌≤◌, Bool, true, false, cond, List, [], ◌∷◌, ◌++◌, length, refl, sym, ◌∙◌, ap, subst, inl, inr, arith, length-set, append_assoc}
 use Rattle.std.specs.Prelude.{All, sum_by, replicate}
 use Rattle.std.specs.List.{AllByRecursion}
 use Rattle.std.proofs.lemmas.List.{length-replicate}
-use Rattle.std.proofs.lemmas.Bool.{cases_eq, cases_lt, cases_Bool, true≢false, false≢true}
+use Rattle.std.proofs.lemmas.Bool.{cases_eq, cases_lt, cases_Bool, false≢true}
 use Rattle.std.proofs.lemmas.List.Sums.{get_or-le-sum_by, sum_by-cons}
 use Rattle.std.proofs.lemmas.List.Elements.{All-from_get_or, All-replicate, recursion_from_All}
 use Rattle.search_core.specs.declared.hand.Phase.{Phase}
 use Rattle.search_core.specs.declared.hand.Phase.TheVariants as phases
 use Rattle.search_core.specs.Hand.{Standing, fresh, PostsMet}
-use Rattle.search_core.specs.Machine.{Machine, opening, hand_at, IsHandOf, IsMeets, turned, turned_in, tried, step, step_in, run, Covers, IsMachine, work, work_of, work_in, ended_in, has_ended, AllOver, Fits, is_in}
+use Rattle.search_core.specs.Machine.{Machine, opening, hand_at, IsHandOf, IsMeets, turned, turned_in, step, step_in, run, IsMachine, work, work_of, work_in, ended_in, has_ended, AllOver, Fits, is_in}
 use Rattle.search_core.specs.Order.{numbers_from, rounds, is_over, taken, events, IsSearch}
-use Rattle.search_core.proofs.Steps.{machine-turned, machine-tried, work-turned, work-tried, keeps-turned, count-turned, fits-tried, covers-turned, covers-tried}
+use Rattle.search_core.proofs.Steps.{machine-turned, machine-tried, work-turned, work-tried, keeps-turned, count-turned, fits-tried}
 
 -- a turn that counts is one, and a turn that is skipped is none
 abbrev one_unless : Bool → ℕ
@@ -26,6 +26,7 @@ hands-step meets core i = by_phase (hand_at core i).phase
     turned_phase (phases.Try k) = refl
     turned_phase (phases.Post k) = length-set core.hands i _
     turned_phase phases.Over = refl
+
     by_phase : (p : Phase) → length (step_in meets core i p).hands ≡ length core.hands
     by_phase phases.Claim = turned_phase (hand_at core i).phase
     by_phase (phases.Look k) = turned_phase (hand_at core i).phase
@@ -135,14 +136,16 @@ stays_over meets (i ∷ rest) core over h =
 none_taken : (meets : ℕ → Bool) (core : Machine) (n i : ℕ) → taken meets core (numbers_from i n) ≡ 0 → (k : ℕ) → i ≤ k → k < i + n → is_over core k ≡ true
 none_taken meets core zero i none k low high = absurd (omega arith)
 none_taken meets core (suc n) i none k low high = elim (cases_Bool (is_over core i)) [
-    inl ended ↦
-        let same = step-over meets core i ended in
-        let counted = rw (ended, same) at none in
-        let rest : taken meets core (numbers_from (i + 1) n) ≡ 0 = omega (arith, counted) in
-        elim (cases_eq k i) [
-            inl here ↦ rw here ended
-          | inr later ↦ none_taken meets core n (i + 1) rest k (omega arith) (omega arith) ]
-  | inr running ↦ absurd (let counted = rw running at none in omega (arith, counted)) ]
+  | inl ended ↦
+      let same = step-over meets core i ended in
+      let counted = rw (ended, same) at none in
+      let rest : taken meets core (numbers_from (i + 1) n) ≡ 0 = omega (arith, counted) in
+      elim (cases_eq k i) [
+        | inl here ↦ rw here ended
+        | inr later ↦ none_taken meets core n (i + 1) rest k (omega arith) (omega arith)
+      ]
+  | inr running ↦ absurd (let counted = rw running at none in omega (arith, counted))
+]
 
 -- a hand that has nothing left to do has ended
 idle_ends : (hand : Standing) (p : Phase) → work_in hand p ≡ 0 → ended_in p ≡ true
@@ -155,7 +158,7 @@ idle_ends hand phases.Over none = refl
 no_work : (core : Machine) → work core ≡ 0 → AllOver core
 no_work core none = All-from_get_or (λ hand. has_ended hand ≡ true) core.hands (fresh core.count core.block)
     (λ i within. let least = get_or-le-sum_by work_of core.hands i (fresh core.count core.block) within in
-        idle_ends (hand_at core i) (hand_at core i).phase (omega (arith, least)))
+    idle_ends (hand_at core i) (hand_at core i).phase (omega (arith, least)))
 
 pub all_over : (core : Machine) → ((k : ℕ) → k < length core.hands → is_over core k ≡ true) → AllOver core
 all_over core h = All-from_get_or (λ hand. has_ended hand ≡ true) core.hands (fresh core.count core.block) h
@@ -165,13 +168,14 @@ pub rounds_end : (meets : ℕ → Bool) (r : ℕ) (core : Machine) → IsMachine
 rounds_end meets zero core sound few = no_work core (omega arith)
 rounds_end meets (suc r) core sound few =
     rw (run-append meets core (numbers_from 0 (length core.hands)) (rounds r (length core.hands))) (elim (cases_lt 0 (taken meets core (numbers_from 0 (length core.hands)))) [
-        inl some' ↦ let rest = rounds_end meets r (run meets core (numbers_from 0 (length core.hands))) first.sound (omega (arith, first.work)) in
-            rw first.hands at rest
+      | inl some' ↦ let rest = rounds_end meets r (run meets core (numbers_from 0 (length core.hands))) first.sound (omega (arith, first.work)) in
+          rw first.hands at rest
       | inr none ↦
-            let over : AllOver core = all_over core (λ k within. none_taken meets core (length core.hands) 0 (omega (arith, none)) k (omega arith) (omega arith)) in
-            let whole = stays_over meets (numbers_from 0 (length core.hands)) core over (in_range-numbers core (length core.hands) 0 (omega arith)) in
-            let later = stays_over meets (rounds r (length core.hands)) core over (in_range-rounds core r (length core.hands) (omega arith)) in
-            rw (whole.0, later.0) over ])
+          let over : AllOver core = all_over core (λ k within. none_taken meets core (length core.hands) 0 (omega (arith, none)) k (omega arith) (omega arith)) in
+          let whole = stays_over meets (numbers_from 0 (length core.hands)) core over (in_range-numbers core (length core.hands) 0 (omega arith)) in
+          let later = stays_over meets (rounds r (length core.hands)) core over (in_range-rounds core r (length core.hands) (omega arith)) in
+          rw (whole.0, later.0) over
+    ])
   where
     first : RunsAlong meets core (numbers_from 0 (length core.hands))
     first = runs_along meets (numbers_from 0 (length core.hands)) core sound (in_range-numbers core (length core.hands) 0 (omega arith))
@@ -192,9 +196,9 @@ no_more meets core order r s sound h over =
     let h' : InRange core (order ++ rounds r (length core.hands)) = in_range-append core order (rounds r (length core.hands)) h (in_range-rounds core r (length core.hands) (omega arith)) in
     let along = runs_along meets (order ++ rounds r (length core.hands)) core sound h' in
     let rest = stays_over meets (rounds s (length core.hands)) (run meets core (order ++ rounds r (length core.hands))) over
-        (in_range-rounds (run meets core (order ++ rounds r (length core.hands))) s (length core.hands) (omega (arith, along.hands))) in
+    (in_range-rounds (run meets core (order ++ rounds r (length core.hands))) s (length core.hands) (omega (arith, along.hands))) in
     let parts : order ++ rounds (r + s) (length core.hands) ≡ (order ++ rounds r (length core.hands)) ++ rounds s (length core.hands) =
-        ap (λ (xs : List ℕ). order ++ xs) (rounds-add r s (length core.hands)) ∙ sym (append_assoc order (rounds r (length core.hands)) (rounds s (length core.hands))) in
+    ap (λ (xs : List ℕ). order ++ xs) (rounds-add r s (length core.hands)) ∙ sym (append_assoc order (rounds r (length core.hands)) (rounds s (length core.hands))) in
     rw parts (omega (arith, taken-append meets core (order ++ rounds r (length core.hands)) (rounds s (length core.hands)), rest.1))
 
 -- any number of rounds that ends all hands gives the same number of turns
@@ -210,7 +214,7 @@ same_events meets core order r sound h over =
 pub few_events : (meets : ℕ → Bool) (core : Machine) (order : List ℕ) → IsMachine core → InRange core order → events meets core order ≤ work core
 few_events meets core order sound h =
     let along = runs_along meets (order ++ rounds (work core) (length core.hands)) core sound
-        (in_range-append core order (rounds (work core) (length core.hands)) h (in_range-rounds core (work core) (length core.hands) (omega arith))) in
+    (in_range-append core order (rounds (work core) (length core.hands)) h (in_range-rounds core (work core) (length core.hands) (omega arith))) in
     omega (arith, along.work)
 
 -- the turn of a hand that has ended doesn't count
@@ -242,13 +246,13 @@ pub events-before_round : (meets : ℕ → Bool) (core : Machine) (order : List 
     → events meets core (order ++ numbers_from 0 (length core.hands)) ≡ events meets core order
 events-before_round meets core order sound h =
     ap (taken meets core) (append_assoc order (numbers_from 0 (length core.hands)) (rounds (work core) (length core.hands)))
-        ∙ same_events meets core order (suc (work core)) sound h (ends_after meets core order (suc (work core)) sound h (omega arith))
+    ∙ same_events meets core order (suc (work core)) sound h (ends_after meets core order (suc (work core)) sound h (omega arith))
 
 -- where all hands have ended no turn is left
 pub events-over : (meets : ℕ → Bool) (core : Machine) (order : List ℕ) → AllOver core → InRange core order → events meets core order ≡ 0
 events-over meets core order over h =
     (stays_over meets (order ++ rounds (work core) (length core.hands)) core over
-        (in_range-append core order (rounds (work core) (length core.hands)) h (in_range-rounds core (work core) (length core.hands) (omega arith)))).1
+    (in_range-append core order (rounds (work core) (length core.hands)) h (in_range-rounds core (work core) (length core.hands) (omega arith)))).1
 
 -- what a step keeps of a list of the numbers that meet
 pub fits-step : (meets : List ℕ) (core : Machine) (i : ℕ) → IsMachine core → i < length core.hands → Fits meets core → Fits meets (step (is_in meets) core i)
@@ -256,6 +260,7 @@ fits-step meets core i sound within fits = by_phase (hand_at core i).phase refl
   where
     keeps : Fits meets (turned core i)
     keeps = (keeps-turned core i sound within).fits meets fits
+
     by_phase : (p : Phase) → (hand_at core i).phase ≡ p → Fits meets (step_in (is_in meets) core i p)
     by_phase phases.Claim e = keeps
     by_phase (phases.Look k) e = keeps
@@ -285,22 +290,29 @@ count-run meets (i ∷ rest) core = count-run meets rest (step meets core i) ∙
 -- a new machine is one, and fits each list
 pub machine-opening : (count block hands : ℕ) → count ≤ 2 ^ 40 → 0 < block → block ≤ 2 ^ 20 → 0 < hands → hands ≤ 64 → IsMachine (opening count block hands)
 machine-opening count block hands few positive small some_hand few_hands = record {
-    count = few; positive = positive; block = small;
-    some_hand = rw (length-replicate hands (fresh count block)) some_hand;
-    few_hands = rw (length-replicate hands (fresh count block)) few_hands;
-    least = omega arith; next = omega arith;
-    hands = All-replicate (IsHandOf (opening count block hands)) hands (fresh count block) (record {
-        count = refl; block = refl; least = omega arith; claimed = tt;
-        sound = record { count = few; positive = positive; block = small; seen = omega arith; phase = tt };
-      });
-  }
+  count = few;
+  positive = positive;
+  block = small;
+  some_hand = rw (length-replicate hands (fresh count block)) some_hand;
+  few_hands = rw (length-replicate hands (fresh count block)) few_hands;
+  least = omega arith;
+  next = omega arith;
+  hands = All-replicate (IsHandOf (opening count block hands)) hands (fresh count block) (record {
+    count = refl;
+    block = refl;
+    least = omega arith;
+    claimed = tt;
+    sound = record { count = few; positive = positive; block = small; seen = omega arith; phase = tt };
+  });
+}
 
 pub fits-opening : (count block hands : ℕ) (meets : List ℕ) → IsMeets count meets → Fits meets (opening count block hands)
 fits-opening count block hands meets list = record {
-    list = list; least = inl refl;
-    posts = All-replicate (PostsMet (is_in meets)) hands (fresh count block) tt;
-    covers = λ n marked below. inl (omega arith);
-  }
+  list = list;
+  least = inl refl;
+  posts = All-replicate (PostsMet (is_in meets)) hands (fresh count block) tt;
+  covers = λ n marked below. inl (omega arith);
+}
 
 sum_by-replicate : (hands : ℕ) (hand : Standing) → work_of hand ≡ 1 → sum_by work_of (replicate hands hand) ≡ hands
 sum_by-replicate zero hand one = refl
@@ -320,12 +332,12 @@ pub ends_after_opening : (count block hands : ℕ) (meets order : List ℕ) → 
     → AllOver (run (is_in meets) (opening count block hands) (order ++ rounds (work (opening count block hands)) hands))
 ends_after_opening count block hands meets order search within =
     subst (λ n. AllOver (run (is_in meets) (opening count block hands) (order ++ rounds (work (opening count block hands)) n))) (length-replicate hands (fresh count block))
-        (ends_after (is_in meets) (opening count block hands) order (work (opening count block hands)) (opens count block hands meets search) (in_hands count block hands order within) (omega arith))
+    (ends_after (is_in meets) (opening count block hands) order (work (opening count block hands)) (opens count block hands meets search) (in_hands count block hands order within) (omega arith))
 
 pub same_events_opening : (count block hands : ℕ) (meets order : List ℕ) (enough : ℕ) → IsSearch count block hands meets → All (λ i. i < hands) order
     → AllOver (run (is_in meets) (opening count block hands) (order ++ rounds enough hands))
     → taken (is_in meets) (opening count block hands) (order ++ rounds enough hands) ≡ events (is_in meets) (opening count block hands) order
 same_events_opening count block hands meets order enough search within =
     subst (λ n. AllOver (run (is_in meets) (opening count block hands) (order ++ rounds enough n))
-            → taken (is_in meets) (opening count block hands) (order ++ rounds enough n) ≡ events (is_in meets) (opening count block hands) order) (length-replicate hands (fresh count block))
-        (same_events (is_in meets) (opening count block hands) order enough (opens count block hands meets search) (in_hands count block hands order within))
+    → taken (is_in meets) (opening count block hands) (order ++ rounds enough n) ≡ events (is_in meets) (opening count block hands) order) (length-replicate hands (fresh count block))
+    (same_events (is_in meets) (opening count block hands) order enough (opens count block hands meets search) (in_hands count block hands order within))

@@ -1,7 +1,7 @@
 -- The turns that are left of an order and of a round.
-use Rattle.std.proofs.Common.{zero, suc, add-one, ◌≡◌, ◌≢◌, ℕ, ◌+◌, ◌-◌, ◌*◌, ◌^◌, ◌<◌, ◌≤◌, ◌⊎◌, Bool, true, false, max, List, [], ◌∷◌, ◌++◌, length, get_or, drop, refl, sym, ◌∙◌, ap, subst, inl, inr, arith, drop-cons, length-set}
+use Rattle.std.proofs.Common.{zero, suc, add-one, ◌≡◌, ℕ, ◌+◌, ◌-◌, ◌<◌, ◌≤◌, Bool, true, false, List, [], ◌∷◌, ◌++◌, length, get_or, drop, refl, sym, ◌∙◌, ap, subst, inl, inr, arith, drop-cons, length-set}
 use Rattle.std.specs.Prelude.{All}
-use Rattle.std.proofs.lemmas.Bool.{cases_eq, cases_lt}
+use Rattle.std.proofs.lemmas.Bool.{cases_lt}
 use Rattle.std.proofs.lemmas.List.{drop_all, length-replicate}
 use Rattle.std.proofs.lemmas.List.Elements.{recursion_from_All, All-drop}
 use Rattle.search_core.specs.Machine.{Machine, opening, hand_at, turned, turned_in, turn_in, tried, step, step_in, ended_in, work, AllOver, IsMachine, Covers, Fits, is_in, first_of}
@@ -29,13 +29,14 @@ pub order_passed : (core : Machine) (order : List ℕ) (at : ℕ) (meets : ℕ �
     → events meets core (left_of order (place + n) at (length core.hands)) ≡ events meets core (left_of order place at (length core.hands))
 order_passed core order at meets zero place passed = ap (λ p. events meets core (left_of order p at (length core.hands))) (omega arith)
 order_passed core order at meets (suc n) place passed = elim (cases_lt place (length order)) [
-    inl within ↦
-        let more : place + suc n ≡ (place + 1) + n = omega arith in
-        let rest = order_passed core order at meets n (place + 1) (λ k low high inside. passed k (omega arith) (omega arith) inside) in
-        ap (λ p. events meets core (left_of order p at (length core.hands))) more ∙ rest
-            ∙ sym (events-skip meets core (get_or order place 0) (left_of order (place + 1) at (length core.hands)) (passed place (omega arith) (omega arith) within))
-            ∙ sym (ap (events meets core) (left-next order place at (length core.hands) within))
-  | inr past ↦ ap (events meets core) (left-end order (place + suc n) at (length core.hands) (omega arith) ∙ sym (left-end order place at (length core.hands) past)) ]
+  | inl within ↦
+      let more : place + suc n ≡ (place + 1) + n = omega arith in
+      let rest = order_passed core order at meets n (place + 1) (λ k low high inside. passed k (omega arith) (omega arith) inside) in
+      ap (λ p. events meets core (left_of order p at (length core.hands))) more ∙ rest
+      ∙ sym (events-skip meets core (get_or order place 0) (left_of order (place + 1) at (length core.hands)) (passed place (omega arith) (omega arith) within))
+      ∙ sym (ap (events meets core) (left-next order place at (length core.hands) within))
+  | inr past ↦ ap (events meets core) (left-end order (place + suc n) at (length core.hands) (omega arith) ∙ sym (left-end order place at (length core.hands) past))
+]
 
 pub round_passed : (core : Machine) (meets : ℕ → Bool) (n at : ℕ) → at + n ≤ length core.hands
     → ((k : ℕ) → at ≤ k → k < at + n → is_over core k ≡ true)
@@ -45,8 +46,8 @@ round_passed core meets (suc n) at within passed =
     let more : at + suc n ≡ (at + 1) + n = omega arith in
     let rest = round_passed core meets n (at + 1) (omega arith) (λ k low high. passed k (omega arith) (omega arith)) in
     ap (λ p. events meets core (numbers_from p (length core.hands - p))) more ∙ rest
-        ∙ sym (events-skip meets core at (numbers_from (at + 1) (length core.hands - (at + 1))) (passed at (omega arith) (omega arith)))
-        ∙ sym (ap (events meets core) (round-next at (length core.hands) (omega arith)))
+    ∙ sym (events-skip meets core at (numbers_from (at + 1) (length core.hands - (at + 1))) (passed at (omega arith) (omega arith)))
+    ∙ sym (ap (events meets core) (round-next at (length core.hands) (omega arith)))
 
 pub place_passed : (core : Machine) (order : List ℕ) (at : ℕ) (meets : ℕ → Bool) (place now : ℕ) → place ≤ now
     → ((k : ℕ) → place ≤ k → k < now → k < length order → is_over core (get_or order k 0) ≡ true)
@@ -54,7 +55,7 @@ pub place_passed : (core : Machine) (order : List ℕ) (at : ℕ) (meets : ℕ �
 place_passed core order at meets place now later passed =
     let sum : place + (now - place) ≡ now = omega arith in
     ap (λ p. events meets core (left_of order p at (length core.hands))) (sym sum)
-        ∙ order_passed core order at meets (now - place) place (λ k low high. passed k low (omega arith))
+    ∙ order_passed core order at meets (now - place) place (λ k low high. passed k low (omega arith))
 
 pub hand_passed : (core : Machine) (meets : ℕ → Bool) (at now : ℕ) → at ≤ now → now ≤ length core.hands
     → ((k : ℕ) → at ≤ k → k < now → is_over core k ≡ true)
@@ -62,7 +63,7 @@ pub hand_passed : (core : Machine) (meets : ℕ → Bool) (at now : ℕ) → at 
 hand_passed core meets at now later within passed =
     let sum : at + (now - at) ≡ now = omega arith in
     ap (λ p. events meets core (numbers_from p (length core.hands - p))) (sym sum)
-        ∙ round_passed core meets (now - at) at (omega arith) (λ k low high. passed k low (omega arith))
+    ∙ round_passed core meets (now - at) at (omega arith) (λ k low high. passed k low (omega arith))
 
 -- where a round has come to its end the next one begins
 pub hand_passed_round : (core : Machine) (meets : ℕ → Bool) (at end now : ℕ) → IsMachine core → at ≤ end → end ≡ length core.hands → now ≤ length core.hands
@@ -72,10 +73,10 @@ hand_passed_round core meets at end now sound later ends within passed passed_ne
     let none : length core.hands - end ≡ 0 = omega arith in
     let whole : length core.hands - 0 ≡ length core.hands = omega arith in
     hand_passed core meets 0 now (omega arith) within passed_next
-        ∙ ap (λ n. events meets core (numbers_from 0 n)) whole
-        ∙ sym (events-round meets core sound)
-        ∙ sym (ap (λ n. events meets core (numbers_from end n)) none)
-        ∙ hand_passed core meets at end later (omega arith) passed
+    ∙ ap (λ n. events meets core (numbers_from 0 n)) whole
+    ∙ sym (events-round meets core sound)
+    ∙ sym (ap (λ n. events meets core (numbers_from end n)) none)
+    ∙ hand_passed core meets at end later (omega arith) passed
 
 pub greatest_bounds : (order : List ℕ) (k d : ℕ) → k < length order → get_or order k d ≤ greatest order
 greatest_bounds [] k d within = absurd (omega arith)
@@ -86,14 +87,14 @@ greatest_bounds (x ∷ xs) (suc k) d within = omega (arith, greatest_bounds xs k
 pub carries_same : (old now : Progress) → now.core ≡ old.core → now.taken ≡ old.taken
     → ((meets : ℕ → Bool) → events meets now.core now.left ≡ events meets old.core old.left) → Carries old now
 carries_same old now core taken turns = record {
-    follows = λ meets all h. record {
-        fits = rw core h.fits;
-        turns = omega (arith, h.turns, turns (is_in meets));
-      };
-    covers = λ left h. rw core h;
-    count = rw core refl;
-    work = rw core (omega arith);
-  }
+  follows = λ meets all h. record {
+    fits = rw core h.fits;
+    turns = omega (arith, h.turns, turns (is_in meets));
+  };
+  covers = λ left h. rw core h;
+  count = rw core refl;
+  work = rw core (omega arith);
+}
 
 -- the hand that an order and a round name next
 pub next_of_order : (order : List ℕ) (place at hands : ℕ) → place < length order
@@ -110,8 +111,9 @@ pass_order order place at hands within = rw (left-next order place at hands with
 pub pass_round : (order : List ℕ) (place at hands : ℕ) → length order ≤ place → 0 < length (left_of order place at hands)
     → left_of order place (at + 1) hands ≡ drop 1 (left_of order place at hands)
 pass_round order place at hands past some_hand = elim (cases_lt at hands) [
-    inl within ↦ left-end order place (at + 1) hands past ∙ sym (ap (drop 1) (left-end order place at hands past ∙ round-next at hands within))
-  | inr none ↦ absurd (nothing (left-end order place at hands past) none) ]
+  | inl within ↦ left-end order place (at + 1) hands past ∙ sym (ap (drop 1) (left-end order place at hands past ∙ round-next at hands within))
+  | inr none ↦ absurd (nothing (left-end order place at hands past) none)
+]
   where
     nothing : left_of order place at hands ≡ numbers_from at (hands - at) → hands ≤ at → ⊥
     nothing is done =
@@ -126,7 +128,7 @@ pub passed_order : (old : Progress) (core : Machine) (order : List ℕ) (place a
     → (let now : Progress = record { core = core; left = left_of order (place + 1) at (length core.hands); taken = taken + 1 } in now ≡ record old { left = drop 1 old.left; taken = old.taken + 1 })
 passed_order old core order place at taken same within =
     subst (λ (p : Progress). let now : Progress = record { core = core; left = left_of order (place + 1) at (length core.hands); taken = taken + 1 } in now ≡ record p { left = drop 1 p.left; taken = p.taken + 1 }) same
-        (ap (λ (xs : List ℕ). let now : Progress = record { core = core; left = xs; taken = taken + 1 } in now) (pass_order order place at (length core.hands) within))
+    (ap (λ (xs : List ℕ). let now : Progress = record { core = core; left = xs; taken = taken + 1 } in now) (pass_order order place at (length core.hands) within))
 
 pub passed_round : (old : Progress) (core : Machine) (order : List ℕ) (place at taken : ℕ)
     → (let now : Progress = record { core = core; left = left_of order place at (length core.hands); taken = taken } in now ≡ old)
@@ -134,7 +136,7 @@ pub passed_round : (old : Progress) (core : Machine) (order : List ℕ) (place a
     → (let now : Progress = record { core = core; left = left_of order place (at + 1) (length core.hands); taken = taken + 1 } in now ≡ record old { left = drop 1 old.left; taken = old.taken + 1 })
 passed_round old core order place at taken same past some_hand =
     subst (λ (p : Progress). 0 < length p.left → (let now : Progress = record { core = core; left = left_of order place (at + 1) (length core.hands); taken = taken + 1 } in now ≡ record p { left = drop 1 p.left; taken = p.taken + 1 })) same
-        (λ h. ap (λ (xs : List ℕ). let now : Progress = record { core = core; left = xs; taken = taken + 1 } in now) (pass_round order place at (length core.hands) past h)) some_hand
+    (λ h. ap (λ (xs : List ℕ). let now : Progress = record { core = core; left = xs; taken = taken + 1 } in now) (pass_round order place at (length core.hands) past h)) some_hand
 
 -- a new schedule
 pub new_follows : (count block hands : ℕ) (core : Machine) (order items meets : List ℕ) → core ≡ opening count block hands → hands ≡ hands_of order → items ≡ order
@@ -145,9 +147,9 @@ new_follows count block hands core order items meets opened asked copied sound e
     let within : All (λ i. i < length core.hands) items = rw copied (λ k d inside. omega (arith, each k d inside, many)) in
     let whole : length core.hands - 0 ≡ length core.hands = omega arith in
     let round : events (is_in meets) core (items ++ numbers_from 0 (length core.hands - 0)) ≡ events (is_in meets) core items =
-        ap (λ n. events (is_in meets) core (items ++ numbers_from 0 n)) whole ∙ events-before_round (is_in meets) core items sound (recursion_from_All (λ i. i < length core.hands) items within) in
+    ap (λ n. events (is_in meets) core (items ++ numbers_from 0 n)) whole ∙ events-before_round (is_in meets) core items sound (recursion_from_All (λ i. i < length core.hands) items within) in
     let same : events (is_in meets) core items ≡ events_of count block meets order =
-        ap (events (is_in meets) core) copied ∙ ap (λ (m : Machine). events (is_in meets) m order) opened ∙ ap (λ n. events (is_in meets) (opening count block n) order) asked in
+    ap (events (is_in meets) core) copied ∙ ap (λ (m : Machine). events (is_in meets) m order) opened ∙ ap (λ n. events (is_in meets) (opening count block n) order) asked in
     record { fits = fits; turns = omega (arith, round, same) }
 
 -- the hand that comes next, where the order has come to its end
@@ -161,8 +163,8 @@ round_runs core order place at taken past within running =
 left_in_range : (core : Machine) (order : List ℕ) (place at : ℕ) → All (λ i. i < length core.hands) order → at ≤ length core.hands → InRange core (left_of order place at (length core.hands))
 left_in_range core order place at each within =
     in_range-append core (drop place order) (numbers_from at (length core.hands - at))
-        (recursion_from_All (λ i. i < length core.hands) (drop place order) (All-drop (λ i. i < length core.hands) place order each))
-        (in_range-numbers core (length core.hands - at) at (omega arith))
+    (recursion_from_All (λ i. i < length core.hands) (drop place order) (All-drop (λ i. i < length core.hands) place order each))
+    (in_range-numbers core (length core.hands - at) at (omega arith))
 
 -- the next turn counts once
 turn_counts : (meets : ℕ → Bool) (core : Machine) (left : List ℕ) → IsMachine core → InRange core left → 0 < length left → is_over core (get_or left 0 0) ≡ false
@@ -178,8 +180,8 @@ next_follows : (core : Machine) (order : List ℕ) (place at taken : ℕ) (meets
 next_follows core order place at taken meets all next is some_hand running steps many fits h =
     let counted = turn_counts (is_in meets) core (left_of order place at (length core.hands)) is.sound (left_in_range core order place at is.hands is.round) some_hand running in
     let same : events (is_in meets) next (drop 1 (left_of order place at (length next.hands))) ≡ events (is_in meets) (step (is_in meets) core (get_or (left_of order place at (length core.hands)) 0 0)) (drop 1 (left_of order place at (length core.hands))) =
-        ap (λ (m : Machine). events (is_in meets) m (drop 1 (left_of order place at (length next.hands)))) steps
-            ∙ ap (λ n. events (is_in meets) (step (is_in meets) core (get_or (left_of order place at (length core.hands)) 0 0)) (drop 1 (left_of order place at n))) many in
+    ap (λ (m : Machine). events (is_in meets) m (drop 1 (left_of order place at (length next.hands)))) steps
+    ∙ ap (λ n. events (is_in meets) (step (is_in meets) core (get_or (left_of order place at (length core.hands)) 0 0)) (drop 1 (left_of order place at n))) many in
     record { fits = fits; turns = omega (arith, h.turns, counted, same) }
 
 hands-turned : (core : Machine) (i : ℕ) → length (turned core i).hands ≡ length core.hands
@@ -221,8 +223,8 @@ pub turn_carries : (old now : Progress) (core next : Machine) (order : List ℕ)
     → Carries old now
 turn_carries old now core next order place at taken hand same is =
     subst (λ (p : Progress). RunsNext p → hand ≡ hand_next p → turns.Did ≡ turn_in (hand_at core hand).phase → next ≡ turned core hand
-        → (let made : Progress = record { core = next; left = drop 1 (left_of order place at (length next.hands)); taken = taken + 1 } in now ≡ made) → Carries p now) same
-        (λ runs comes did turns_to made. subst (λ (p : Progress). (let seen : Progress = record { core = core; left = left_of order place at (length core.hands); taken = taken } in Carries seen p)) (sym made) (carried runs comes did turns_to))
+    → (let made : Progress = record { core = next; left = drop 1 (left_of order place at (length next.hands)); taken = taken + 1 } in now ≡ made) → Carries p now) same
+    (λ runs comes did turns_to made. subst (λ (p : Progress). (let seen : Progress = record { core = core; left = left_of order place at (length core.hands); taken = taken } in Carries seen p)) (sym made) (carried runs comes did turns_to))
   where
     carried : (let seen : Progress = record { core = core; left = left_of order place at (length core.hands); taken = taken } in RunsNext seen) → hand ≡ get_or (left_of order place at (length core.hands)) 0 0
         → turns.Did ≡ turn_in (hand_at core hand).phase → next ≡ turned core hand
@@ -252,9 +254,9 @@ pub try_follows : (old now : Progress) (core next : Machine) (order : List ℕ) 
     → (meets : List ℕ) (all : ℕ) → met ≡ is_in meets (number_next old) → Follows meets all old → Follows meets all now
 try_follows old now core next order place at taken hand met same is =
     subst (λ (p : Progress). Asks p → hand ≡ hand_next p → hand < length p.core.hands → next ≡ tried core hand met
-        → (let made : Progress = record { core = next; left = drop 1 (left_of order place at (length next.hands)); taken = taken + 1 } in now ≡ made)
-        → (meets : List ℕ) (all : ℕ) → met ≡ is_in meets (number_next p) → Follows meets all p → Follows meets all now) same
-        (λ asks comes within tries_to made meets all says h. subst (λ (p : Progress). Follows meets all p) (sym made) (followed asks comes within tries_to meets all says h))
+    → (let made : Progress = record { core = next; left = drop 1 (left_of order place at (length next.hands)); taken = taken + 1 } in now ≡ made)
+    → (meets : List ℕ) (all : ℕ) → met ≡ is_in meets (number_next p) → Follows meets all p → Follows meets all now) same
+    (λ asks comes within tries_to made meets all says h. subst (λ (p : Progress). Follows meets all p) (sym made) (followed asks comes within tries_to meets all says h))
   where
     followed : AsksIn core (left_of order place at (length core.hands)) → hand ≡ get_or (left_of order place at (length core.hands)) 0 0 → hand < length core.hands → next ≡ tried core hand met
         → (meets : List ℕ) (all : ℕ) → met ≡ is_in meets (number_in (hand_at core (get_or (left_of order place at (length core.hands)) 0 0)).phase)
@@ -267,8 +269,8 @@ try_follows old now core next order place at taken hand met same is =
         let many : length next.hands ≡ length core.hands = ap (λ (m : Machine). length m.hands) to ∙ length-set core.hands i _ in
         let phase = try_phase (hand_at core i).phase asked.1 in
         next_follows core order place at taken meets all next is asked.0 (try_runs (hand_at core i).phase asked.1)
-            (to ∙ step-tries meets core i met (hand_at core i).phase asked.1 says) many
-            (subst (λ (m : Machine). Fits meets m) (sym to) (fits-tried core i (number_in (hand_at core i).phase) met meets (omega (arith, comes)) phase says h.fits)) h
+        (to ∙ step-tries meets core i met (hand_at core i).phase asked.1 says) many
+        (subst (λ (m : Machine). Fits meets m) (sym to) (fits-tried core i (number_in (hand_at core i).phase) met meets (omega (arith, comes)) phase says h.fits)) h
 
 pub try_covers : (old now : Progress) (core next : Machine) (order : List ℕ) (place at taken hand : ℕ) (met : Bool)
     → (let seen : Progress = record { core = core; left = left_of order place at (length core.hands); taken = taken } in seen ≡ old)
@@ -277,23 +279,23 @@ pub try_covers : (old now : Progress) (core next : Machine) (order : List ℕ) (
     → (left : ℕ → Bool) → (met ≡ false → left (number_next old) ≡ false) → Covers left old.core → Covers left now.core
 try_covers old now core next order place at taken hand met same =
     subst (λ (p : Progress). Asks p → hand ≡ hand_next p → hand < length p.core.hands → next ≡ tried core hand met
-        → (let made : Progress = record { core = next; left = drop 1 (left_of order place at (length next.hands)); taken = taken + 1 } in now ≡ made)
-        → (left : ℕ → Bool) → (met ≡ false → left (number_next p) ≡ false) → Covers left p.core → Covers left now.core) same
-        (λ asks comes within tries_to made left misses h.
-            let i = get_or (left_of order place at (length core.hands)) 0 0 in
-            let asked = front_asks core (left_of order place at (length core.hands)) asks in
-            let to : now.core ≡ tried core i met = ap (λ (p : Progress). p.core) made ∙ tries_to ∙ ap (λ n. tried core n met) comes in
-            subst (λ (m : Machine). Covers left m) (sym to)
-                (covers-tried core i (number_in (hand_at core i).phase) met left (omega (arith, comes)) (try_phase (hand_at core i).phase asked.1) misses h))
+    → (let made : Progress = record { core = next; left = drop 1 (left_of order place at (length next.hands)); taken = taken + 1 } in now ≡ made)
+    → (left : ℕ → Bool) → (met ≡ false → left (number_next p) ≡ false) → Covers left p.core → Covers left now.core) same
+    (λ asks comes within tries_to made left misses h.
+    let i = get_or (left_of order place at (length core.hands)) 0 0 in
+    let asked = front_asks core (left_of order place at (length core.hands)) asks in
+    let to : now.core ≡ tried core i met = ap (λ (p : Progress). p.core) made ∙ tries_to ∙ ap (λ n. tried core n met) comes in
+    subst (λ (m : Machine). Covers left m) (sym to)
+    (covers-tried core i (number_in (hand_at core i).phase) met left (omega (arith, comes)) (try_phase (hand_at core i).phase asked.1) misses h))
 
 -- what is kept from one moment to the next is kept over both
 pub carries_on : (a b c : Progress) → Carries a b → Carries b c → Carries a c
 carries_on a b c first second = record {
-    follows = λ meets all h. second.follows meets all (first.follows meets all h);
-    covers = λ left h. second.covers left (first.covers left h);
-    count = second.count ∙ first.count;
-    work = omega (arith, first.work, second.work);
-  }
+  follows = λ meets all h. second.follows meets all (first.follows meets all h);
+  covers = λ left h. second.covers left (first.covers left h);
+  count = second.count ∙ first.count;
+  work = omega (arith, first.work, second.work);
+}
 
 -- where all hands have ended, and nothing is left of the order and of the round
 pub nothing_left : (core : Machine) (order : List ℕ) (place at : ℕ) (meets : ℕ → Bool) → AllOver core → length order ≤ place → at ≡ length core.hands

@@ -1,5 +1,5 @@
 -- One hand of the search, as a table of phases.
-use Rattle.std.specs.Prelude.{◌≡◌, ℕ, ◌+◌, ◌-◌, ◌*◌, ◌/◌, ◌^◌, ◌<◌, ◌≤◌, Bool, true, false, min, nat_lt, nat_eq, if◌then◌else◌, Option, Some, None, IfSome, IsSomeAnd}
+use Rattle.std.specs.Prelude.{◌≡◌, ℕ, ◌+◌, ◌*◌, ◌^◌, ◌<◌, ◌≤◌, Bool, true, false, min, nat_lt, nat_eq, if◌then◌else◌, Option, Some, None, IfSome, IsSomeAnd}
 use Rattle.std.specs.Int.{div_ceil}
 use Rattle.search_core.specs.declared.hand.Phase.{Phase}
 use Rattle.search_core.specs.declared.hand.Phase.TheVariants as phases
@@ -10,10 +10,10 @@ use Rattle.search_core.specs.declared.hand.Answer.TheVariants as answers
 
 -- where a hand stands
 pub record Standing : Type 0 where
-  pub count : ℕ        -- how many numbers there are
-  pub block : ℕ        -- how many numbers a block has
-  pub phase : Phase    -- what it does next
-  pub seen : ℕ         -- the least number that it knows of, the count at first
+  pub count : ℕ  -- how many numbers there are
+  pub block : ℕ  -- how many numbers a block has
+  pub phase : Phase  -- what it does next
+  pub seen : ℕ  -- the least number that it knows of, the count at first
   pub last : Option ℕ  -- the block that it claimed last
 
 -- a hand that has done nothing

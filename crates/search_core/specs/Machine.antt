@@ -1,5 +1,5 @@
 -- Several hands over two shared numbers.
-use Rattle.std.specs.Prelude.{◌≡◌, ℕ, ◌+◌, ◌-◌, ◌*◌, ◌^◌, ◌<◌, ◌≤◌, ◌⊎◌, Bool, true, false, min, nat_eq, if◌then◌else◌, Option, Some, None, IfSome, IsSomeAnd, List, [], ◌∷◌, length, slice_index_or, slice_set, slice_get, unwrap_or, replicate, All, count_by, sum_by}
+use Rattle.std.specs.Prelude.{◌≡◌, ℕ, ◌+◌, ◌-◌, ◌*◌, ◌^◌, ◌<◌, ◌≤◌, ◌⊎◌, Bool, true, false, min, nat_eq, if◌then◌else◌, IfSome, List, [], ◌∷◌, length, slice_index_or, slice_set, slice_get, unwrap_or, replicate, All, count_by, sum_by}
 use Rattle.std.specs.List.{list_any}
 use Rattle.std.specs.List.Sorted.{IsStrictlyIncreasing}
 use Rattle.search_core.specs.declared.hand.Phase.{Phase}
@@ -12,10 +12,10 @@ use Rattle.search_core.specs.Hand.{Standing, fresh, told, block_count, open_end,
 
 -- the shared numbers and the hands
 pub record Machine : Type 0 where
-  pub count : ℕ             -- how many numbers there are
-  pub block : ℕ             -- how many numbers a block has
-  pub next : ℕ              -- the next block, which nobody has claimed
-  pub least : ℕ             -- the least number that was posted, or the count
+  pub count : ℕ  -- how many numbers there are
+  pub block : ℕ  -- how many numbers a block has
+  pub next : ℕ  -- the next block, which nobody has claimed
+  pub least : ℕ  -- the least number that was posted, or the count
   pub hands : List Standing
 
 -- nothing is claimed and nothing was posted

@@ -1,7 +1,7 @@
 -- Whole runs, and the number of turns under an order.
-use Rattle.std.specs.Prelude.{◌≡◌, ℕ, zero, suc, ◌+◌, ◌-◌, ◌*◌, ◌^◌, ◌<◌, ◌≤◌, Bool, true, false, max, if◌then◌else◌, List, [], ◌∷◌, ◌++◌, length, drop, All, slice_index}
+use Rattle.std.specs.Prelude.{◌≡◌, ℕ, zero, suc, ◌+◌, ◌-◌, ◌^◌, ◌<◌, ◌≤◌, Bool, false, max, if◌then◌else◌, List, [], ◌∷◌, ◌++◌, length, drop, All, slice_index}
 use Rattle.search_core.specs.Hand.{IsTry, number_in}
-use Rattle.search_core.specs.Machine.{Machine, opening, hand_at, has_ended, step, run, work, is_in, IsMeets, IsMachine, Covers, Fits}
+use Rattle.search_core.specs.Machine.{Machine, opening, hand_at, has_ended, step, work, is_in, IsMeets, IsMachine, Covers, Fits}
 
 -- so many numbers from i on
 abbrev pub numbers_from : ℕ → ℕ → List ℕ
@@ -53,7 +53,7 @@ pub record IsSearch (numbers size hands : ℕ) (list : List ℕ) : Type 0 where
 pub record Progress : Type 0 where
   pub core : Machine
   pub left : List ℕ  -- the hands whose turns come next: what is left of the order, and then of a round
-  pub taken : ℕ      -- how many turns were taken
+  pub taken : ℕ  -- how many turns were taken
 
 -- The list is that of the numbers that meet, as far as the search has gone, and the turns that were taken and
 -- those that are left are so many in all.

@@ -64,13 +64,28 @@ impl Model for Hand {
     ghost Value = { Standing };
 
     ghost view = { λ hand. record {
-        count = hand.count; block = hand.block; phase = hand.phase; seen = hand.seen; last = hand.last } };
+      count = hand.count;
+      block = hand.block;
+      phase = hand.phase;
+      seen = hand.seen;
+      last = hand.last;
+    } };
 
     ghost invariant = { λ hand. IsHand (record {
-        count = hand.count; block = hand.block; phase = hand.phase; seen = hand.seen; last = hand.last }) };
+      count = hand.count;
+      block = hand.block;
+      phase = hand.phase;
+      seen = hand.seen;
+      last = hand.last;
+    }) };
 
     ghost inverse = { λ hand. record {
-        count = hand.count; block = hand.block; phase = hand.phase; seen = hand.seen; last = hand.last } };
+      count = hand.count;
+      block = hand.block;
+      phase = hand.phase;
+      seen = hand.seen;
+      last = hand.last;
+    } };
 }
 
 /// The phase after a claim of the block that begins at `start`.

@@ -5,10 +5,9 @@ ghost use Rattle.search_core.specs.Hand.{IsTry, number_in, fresh};
 ghost use Rattle.search_core.specs.Order.{is_over};
 ghost use Rattle.search_core.specs.Machine.{Machine, opening, hand_at, turned, turn_in, verdict, tried, AllOver, IsMachine, IsMeets, is_in, first_of, Covers, Fits, work, has_ended, IfTurnTries};
 
+use crate::hand::{Answer, Ask, Hand, Phase};
 use std::alloc::Global;
 use std::marker::Model;
-
-use crate::hand::{Answer, Ask, Hand, Phase};
 
 /// There is no memory.
 #[derive(Clone, Copy, Debug, PartialEq, Eq)]
@@ -41,10 +40,20 @@ impl Model for Core {
     ghost Value = { Machine };
 
     ghost view = { λ core. record {
-        count = core.count; block = core.block; next = core.next; least = core.least; hands = core.hands.items } };
+      count = core.count;
+      block = core.block;
+      next = core.next;
+      least = core.least;
+      hands = core.hands.items;
+    } };
 
     ghost invariant = { λ core. IsMachine (record {
-        count = core.count; block = core.block; next = core.next; least = core.least; hands = core.hands.items }) };
+      count = core.count;
+      block = core.block;
+      next = core.next;
+      least = core.least;
+      hands = core.hands.items;
+    }) };
 }
 
 /// As many new hands.
@@ -99,6 +108,7 @@ impl Core {
         ensures turned { self.new ≡ turned self.old hand }
         ensures answer { result ≡ turn_in (hand_at self.old hand).phase }
         ensures tries { IfTurnTries result (λ k. (hand_at self.old hand).phase ≡ Phase.Try k) }
+        ensures within { IfTurnTries result (λ k. k < self.old.count) }
         ensures stays { result ≢ Turn.Did → self.new ≡ self.old }
         ensures over { result ≡ Turn.Over → IsTrue (has_ended (hand_at self.old hand)) }
         ensures sound { IsMachine self.new }

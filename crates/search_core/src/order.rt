@@ -4,22 +4,20 @@ ghost use Rattle.std.specs.Prelude.{◌≡◌, ◌≢◌, ℕ, ◌+◌, ◌-◌,
 ghost use Rattle.search_core.specs.Machine.{Machine, opening, AllOver, IsMachine, IsMeets, is_in, first_of, Covers, Fits, work, run, IfTurnTries};
 ghost use Rattle.search_core.specs.Order.{IsSearch, Asks, hand_next, number_next, numbers_from, rounds, is_over, taken, events, events_of, hands_of, greatest, Progress, Follows, Carries, RunsNext, left_of};
 
+use crate::machine::{Core, Memory, Turn};
 use std::alloc::Global;
 use std::marker::Model;
-
-use crate::machine::{Core, Memory, Turn};
 
 /// Whatever hands take their turns in whatever order, the least number that is known is the count or
 /// meets, and where all hands have ended it is the first number that meets.
 pub fn any_order()
     ensures known { (count block hands : ℕ) (meets order : List ℕ) → IsSearch count block hands meets → All (λ i. i < hands) order
         → ((run (is_in meets) (opening count block hands) order).least ≡ count)
-            ⊎ IsTrue (is_in meets (run (is_in meets) (opening count block hands) order).least) }
+        ⊎ IsTrue (is_in meets (run (is_in meets) (opening count block hands) order).least) }
     ensures first { (count block hands : ℕ) (meets order : List ℕ) → IsSearch count block hands meets → All (λ i. i < hands) order
         → AllOver (run (is_in meets) (opening count block hands) order)
         → (run (is_in meets) (opening count block hands) order).least ≡ first_of count meets }
-{
-}
+{}
 
 /// The number of turns under an order is that of the turns until all hands have ended, however many
 /// rounds more are made, and there are fewer than 2^43.
@@ -31,8 +29,7 @@ pub fn number_of_turns()
         → taken (is_in meets) (opening count block hands) (order ++ rounds enough hands) ≡ events (is_in meets) (opening count block hands) order }
     ensures few { (count block hands : ℕ) (meets order : List ℕ) → IsSearch count block hands meets → All (λ i. i < hands) order
         → events (is_in meets) (opening count block hands) order < 2 ^ 43 }
-{
-}
+{}
 
 /// A number that a hand is to try.
 #[derive(Clone, Copy, Debug, PartialEq, Eq)]
@@ -59,7 +56,10 @@ impl Model for Schedule {
     ghost Value = { Progress };
 
     ghost view = { λ s. record {
-        core = s.core; left = left_of s.order.items s.place s.at (length s.core.hands); taken = s.taken } };
+      core = s.core;
+      left = left_of s.order.items s.place s.at (length s.core.hands);
+      taken = s.taken;
+    } };
 
     ghost invariant = { λ s. IsSchedule s.core s.order.items s.at s.taken };
 }
@@ -188,7 +188,7 @@ impl Schedule {
         requires { RunsNext self.old }
         ensures carries { Carries self.old self.new }
         ensures did { result ≡ Turn.Did → work self.new.core < work self.old.core }
-        ensures tries { IfTurnTries result (λ k. Asks self.new × (number_next self.new ≡ k)) }
+        ensures tries { IfTurnTries result (λ k. Asks self.new × (number_next self.new ≡ k) × (k < self.new.core.count)) }
         ensures never { result ≢ Turn.Over }
     {
         let hand = self.front();
@@ -206,6 +206,7 @@ impl Schedule {
     pub fn next_try(&mut self) -> Option<Trial>
         ensures carries { Carries self.old self.new }
         ensures trial { IfSome result (λ trial. Asks self.new × (trial.hand ≡ hand_next self.new) × (trial.number ≡ number_next self.new)) }
+        ensures within { IfSome result (λ trial. trial.number < self.new.core.count) }
         ensures over { IsNone result → AllOver self.new.core }
         ensures done { IsNone result → (meets : List ℕ) (all : ℕ) → Follows meets all self.new
             → (self.new.taken ≡ all) × (self.new.core.least ≡ first_of self.new.core.count meets) }
@@ -246,5 +247,69 @@ impl Schedule {
         ensures { result ≡ self.now.core.least }
     {
         self.core.least()
+    }
+}
+
+#[cfg(test)]
+mod tests {
+    use super::*;
+    use std::process::Abort;
+
+    /// Whether a step of 3904 for each whole `side` of the number and of 2048 for the rest comes to a length in a range.
+    fn is_in_reach(number: u64, side: u64, low: u64, high: u64) -> bool
+        requires { 0 < side }
+    {
+        let length = 3904u64
+            .saturating_mul(number / side)
+            .saturating_add(2048u64.saturating_mul(number % side));
+        low <= length && length <= high
+    }
+
+    /// The least number that is in reach and the number of turns, in blocks of 256 under an order.
+    fn search(
+        rt: &impl Abort,
+        alloc: Global,
+        side: u64,
+        low: u64,
+        high: u64,
+        order: &[u8],
+    ) -> Result<(u64, u64), Memory>
+        requires positive { 0 < side }
+        requires small { side < 1000 }
+    {
+        assert!(rt; order.iter().all(|hand| *hand < 64));
+        let mut search = Schedule::new(alloc, side * side, 256, order)?;
+        for _ in 0..100000 {
+            match search.next_try() {
+                Some(trial) => search.tried(is_in_reach(trial.number, side, low, high)),
+                None => break,
+            }
+        }
+        Ok((search.least(), search.turns()))
+    }
+
+    #[test]
+    fn turns_under_orders(rt: HostRuntime) -> Result<(), Memory> {
+        let alloc = rt.alloc();
+        assert_eq!(rt; search(&rt, alloc, 3, 8000, 8000, &[])?, (5, 15));
+        assert_eq!(rt;
+            search(&rt, alloc, 3, 8000, 8000, &[0, 0, 1, 2, 1])?,
+            (5, 17)
+        );
+        assert_eq!(rt; search(&rt, alloc, 3, 8000, 8000, &[3, 3, 3, 0])?, (5, 18));
+        assert_eq!(rt; search(&rt, alloc, 20, 10240, 1000000, &[0, 1])?, (5, 20));
+        assert_eq!(rt;
+            search(
+                &rt,
+                alloc,
+                20,
+                10240,
+                1000000,
+                &[0, 0, 0, 0, 0, 0, 0, 0, 0, 0, 0, 0, 0, 0, 1]
+            )?,
+            (5, 18)
+        );
+        assert_eq!(rt; search(&rt, alloc, 3, 1, 1, &[])?.0, 9, "none");
+        Ok(())
     }
 }

@@ -1,10 +1,4 @@
-use Rattle.std.proofs.Common.{◌≡◌, ℕ, ◌<◌, ◌⊎◌, List, length, true, subst, sym, ◌∙◌, inl, inr}
-use Rattle.std.proofs.lemmas.List.{length-replicate}
-use Rattle.std.proofs.lemmas.List.Elements.{recursion_from_All}
-use Rattle.std.specs.Prelude.{All}
-use Rattle.search_core.specs.Hand.{fresh}
-use Rattle.search_core.specs.Machine.{IsMachine, Fits, is_in, run, opening}
-use Rattle.search_core.specs.Order.{IsSearch}
+use Rattle.search_core.specs.Machine.{is_in, run, opening}
 use Rattle.search_core.proofs.Steps.{over-first}
 use Rattle.search_core.proofs.Runs.{opens, in_hands, fits-run, fits-opening, count-run, runs_along}
 use Rattle.search_core.proofs.order.any_order.Goals as goal

@@ -1,6 +1,5 @@
-use Rattle.std.proofs.Common.{◌≡◌, ◌<◌, arith, drop, max, length, refl}
+use Rattle.std.proofs.Common.{arith}
 use Rattle.std.proofs.lemmas.List.{drop_all}
-use Rattle.search_core.specs.Order.{greatest}
 use Rattle.search_core.proofs.Turns.{greatest_bounds}
 use Rattle.search_core.proofs.order.hands_for.Goals as goal
 

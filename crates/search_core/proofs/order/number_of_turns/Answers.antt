@@ -1,4 +1,4 @@
-use Rattle.std.proofs.Common.{◌<◌, arith, subst}
+use Rattle.std.proofs.Common.{arith}
 use Rattle.search_core.specs.Machine.{is_in, opening, work}
 use Rattle.search_core.proofs.Runs.{opens, in_hands, ends_after_opening, same_events_opening, few_events, work-opening}
 use Rattle.search_core.proofs.order.number_of_turns.Goals as goal

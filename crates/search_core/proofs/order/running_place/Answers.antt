@@ -1,4 +1,4 @@
-use Rattle.std.proofs.Common.{◌≤◌, arith}
+use Rattle.std.proofs.Common.{arith}
 use Rattle.search_core.proofs.Turns.{place_passed}
 use Rattle.search_core.proofs.order.running_place.Goals as goal
 

@@ -1,4 +1,3 @@
-use Rattle.std.proofs.Common.{refl}
 use Rattle.search_core.proofs.Turns.{carries_on, all_done}
 use Rattle.search_core.proofs.order.Schedule.next_try.Goals as goal
 
