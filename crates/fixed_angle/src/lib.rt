@@ -1,0 +1,2 @@
+//! Arithmetic in fixed point, angles and the play tables.
+#![tactic(auto)]
