@@ -1,5 +1,5 @@
 -- Arithmetic on 32-bit numbers, over whole numbers. A fixed-point number n stands for n / 65536.
-use Rattle.std.specs.Prelude.{◌/◌, Bool, ◌&&◌, ◌||◌, not, ℤ, pos, negsuc, ◌*ℤ◌, unsigned_abs, int_div, nat_le, if◌then◌else◌}
+use Rattle.std.specs.Prelude.{ℕ, ◌+◌, ◌-◌, ◌*◌, ◌/◌, ◌%◌, min, Bool, ◌&&◌, ◌||◌, not, ℤ, pos, negsuc, ◌*ℤ◌, unsigned_abs, int_div, nat_le, nat_lt, if◌then◌else◌}
 use Rattle.std.specs.Int.{w32, int_wrap, int_div_euclid, is_negative}
 
 -- what is left of a whole number in 32 signed bits: the number from -2^31 to 2^31 - 1 that differs from it
@@ -22,3 +22,12 @@ far_end a_negative b_negative = if (a_negative && not b_negative) || (not a_nega
 -- the quotient of two fixed-point numbers, rounded toward zero; where it would not fit, the end on its side
 abbrev pub div : ℤ → ℤ → ℤ
 div a b = if nat_le (unsigned_abs b) (unsigned_abs a / 16384) then far_end (is_negative a) (is_negative b) else int_div (a *ℤ pos 65536) b
+
+-- The place in the table of arcs for the slope n / d of an eighth of a turn, of which 2048 is the last. n is
+-- shifted in 32 bits.
+abbrev pub slope : ℕ → ℕ → ℕ
+slope n d = if nat_lt d 512 then 2048 else min 2048 (n * 8 % 4294967296 / (d / 256))
+
+-- about the length of the way (dx, dy): the two lengths together, less half of the lesser one
+abbrev pub aprox : ℤ → ℤ → ℤ
+aprox dx dy = wrap32 (pos (unsigned_abs dx + unsigned_abs dy - min (unsigned_abs dx) (unsigned_abs dy) / 2))
