@@ -1,1 +1,4 @@
+pub mod File
+pub mod Found
+pub mod Numbers
 pub mod Words
