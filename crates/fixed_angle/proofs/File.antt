@@ -1,6 +1,5 @@
 -- What the conditions on a table file say of its kinds.
-use Rattle.std.proofs.Common.{◌≡◌, ◌⊎◌, inl, inr, ℕ, ◌+◌, ◌*◌, ◌<◌, ◌≤◌, List, length, map, Option, Some, None, subst, ap, ◌∙◌, sym}
-use Rattle.std.specs.List.{range_with_len}
+use Rattle.std.proofs.Common.{◌≡◌, inl, inr, ℕ, ◌+◌, ◌*◌, ◌<◌, List, length, Option, Some, None, subst, ap, ◌∙◌}
 use Rattle.std.proofs.lemmas.List.FromFn.{length-map-range_with_len}
 use Rattle.first_fault.specs.FirstFault.{FirstFault, for_each}
 use Rattle.first_fault.proofs.Order.{first_after, none_each}

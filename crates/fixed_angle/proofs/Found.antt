@@ -1,7 +1,7 @@
 -- The kind with a number, among kinds in the file's order and in the order of their numbers.
-use Rattle.std.proofs.Common.{◌≡◌, ◌≢◌, ◌⊎◌, ℕ, zero, suc, ◌+◌, ◌<◌, ◌≤◌, ◌==◌, Bool, true, false, List, [], ◌∷◌, length, get_or, slice_index_or, refl, sym, ap, ◌∙◌, inl, inr, arith, rules, Option, Some, None, All, IsNone, IfSome, IfNone, ◌↔◌}
+use Rattle.std.proofs.Common.{◌≡◌, ◌≢◌, ℕ, zero, suc, ◌<◌, ◌==◌, Bool, true, false, List, [], ◌∷◌, length, get_or, refl, sym, ap, ◌∙◌, inl, inr, arith, Option, Some, None, All, IsNone, IfSome, IfNone, ◌↔◌}
 use Rattle.std.specs.Prelude.{IsPermutation, Contains, find}
-use Rattle.std.proofs.lemmas.Bool.{false≢true, eq-eqb, cases_Bool, cases_order}
+use Rattle.std.proofs.lemmas.Bool.{eq-eqb, cases_Bool, cases_order}
 use Rattle.std.proofs.lemmas.Bool.Decides.{Decides-eqb}
 use Rattle.std.proofs.lemmas.List.{get_or_default}
 use Rattle.std.proofs.lemmas.List.Sorted.{IsPermutation-sym, Contains-permutation, All-permutation}
@@ -45,7 +45,7 @@ same_place kinds new i j li lj same =
       | inr apart ↦ elim apart [
         | inl below ↦ absurd (new j lj i below same)
         | inr above ↦ absurd (new i li j above (sym same))
-        ]
+      ]
     ]
 
 -- the kind that a search in order found is the first of that number in the file
@@ -54,11 +54,11 @@ found_with kinds ordered number kind moved new has is =
     let here = Contains-permutation ordered kinds kind (IsPermutation-sym kinds ordered moved) has in
     let at = here.0 in
     let only : (i : ℕ) → i < length kinds → ((get_or kinds i kind).number == number) ≡ true → get_or kinds i kind ≡ kind =
-        λ i below test.
-        let left : kind_number kinds i ≡ number = ap (λ (k : Kind). k.number) (get_or_default kinds i no_kind kind below) ∙ has_number (get_or kinds i kind) number test in
-        let right : kind_number kinds at ≡ number = ap (λ (k : Kind). k.number) (get_or_default kinds at no_kind kind here.1 ∙ here.2) ∙ is in
-        let same : i ≡ at = same_place kinds new i at below here.1 (left ∙ sym right) in
-        rw same here.2 in
+    λ i below test.
+    let left : kind_number kinds i ≡ number = ap (λ (k : Kind). k.number) (get_or_default kinds i no_kind kind below) ∙ has_number (get_or kinds i kind) number test in
+    let right : kind_number kinds at ≡ number = ap (λ (k : Kind). k.number) (get_or_default kinds at no_kind kind here.1 ∙ here.2) ∙ is in
+    let same : i ≡ at = same_place kinds new i at below here.1 (left ∙ sym right) in
+    rw same here.2 in
     find_only (λ k. k.number == number) kinds kind at (eq-eqb kind.number number is) only here.1 here.2
 
 -- where a search in order found nothing, no kind of the file has the number

@@ -1,5 +1,5 @@
 -- The file of the play tables: what its bytes spell, and what has to hold of them. All numbers are little endian.
-use Rattle.std.specs.Prelude.{◌≡◌, ℕ, ◌+◌, ◌*◌, ◌≤◌, ℤ, List, [], ◌∷◌, ◌++◌, length, take, map, codes, slice_index, Option, Some, None}
+use Rattle.std.specs.Prelude.{◌≡◌, ℕ, ◌+◌, ◌*◌, ◌≤◌, ℤ, List, [], ◌∷◌, ◌++◌, length, take, map, codes, slice_index, Some}
 use Rattle.std.specs.List.{range_with_len}
 use Rattle.std.specs.Int.{w32, cast_signed}
 use Rattle.first_fault.specs.FirstFault.{Condition, FirstFault, for_each}
@@ -34,7 +34,7 @@ kind_at bytes at = record {
   flags = word_at bytes (at + 2);
   radius = signed_at bytes (at + 4);
   height = signed_at bytes (at + 8);
-  first = signed_at bytes (at + 12)
+  first = signed_at bytes (at + 12);
 }
 
 abbrev pub kinds_of : List ℕ → List Kind
@@ -47,7 +47,7 @@ tables_of bytes = record {
   sines = entries (λ i. signed_at bytes (8 + 4 * i)) 10240;
   arcs = entries (λ i. long_at bytes (40968 + 4 * i)) 2049;
   draws = entries (λ i. slice_index bytes (49164 + i)) 256;
-  kinds = kinds_of bytes
+  kinds = kinds_of bytes;
 }
 
 -- the file begins with its letters and a number of kinds of at most 1024

@@ -9,9 +9,23 @@ use crate::{Kind, TabFault};
 use byteorder::{ByteOrder, LittleEndian};
 use std::alloc::{AllocError, Global};
 
-/// How many bytes stand before the kinds, and how many a kind has.
-const HEAD_LEN: usize = 49420;
+// Where each table begins, and how many entries it has. A kind has 16 bytes.
+pub const SINES_AT: usize = 8;
+
+pub const SINES: usize = 10240;
+
+pub const ARCS_AT: usize = 40968;
+
+pub const ARCS: usize = 2049;
+
+pub const DRAWS_AT: usize = 49164;
+
+pub const DRAWS: usize = 256;
+
+const KINDS_AT: usize = 49420;
+
 const KIND_LEN: usize = 16;
+
 const MOST_KINDS: u32 = 1024;
 
 fn word(bytes: &[u8], at: usize) -> u16
@@ -125,7 +139,7 @@ fn judged_count(bytes: &[u8]) -> Result<usize, TabFault>
         return Err(TabFault::TabHead);
     }
     let count = count as usize;
-    if bytes.len() != HEAD_LEN + KIND_LEN * count {
+    if bytes.len() != KINDS_AT + KIND_LEN * count {
         return Err(TabFault::TabLength);
     }
     Ok(count)
@@ -173,7 +187,7 @@ pub fn read_kinds(alloc: Global, bytes: &[u8]) -> Result<Vec<Kind>, TabFault>
     ensures fault { IfErr result (IsCause bytes.now) }
 {
     let count = judged_count(bytes)?;
-    let kinds = kind_entries(alloc, bytes, HEAD_LEN, count)?;
+    let kinds = kind_entries(alloc, bytes, KINDS_AT, count)?;
     match kinds_fault(&kinds) {
         Some(fault) => Err(fault),
         None => Ok(kinds),

@@ -6,8 +6,12 @@ ghost use Rattle.fixed_angle.specs.Tables.{sine_of, cosine_of, arc_of, draw_of, 
 ghost use Rattle.fixed_angle.specs.Angle.{angle};
 ghost use Rattle.fixed_angle.specs.TableFile.{tables_of, table_conditions, IsCause};
 
+use crate::angle::{flat, steep};
 use crate::kind::{ordered, search};
-use crate::read::{byte_entries, long_entries, read_kinds, signed_entries};
+use crate::read::{
+    ARCS, ARCS_AT, DRAWS, DRAWS_AT, SINES, SINES_AT, byte_entries, long_entries, read_kinds,
+    signed_entries,
+};
 use crate::{Kind, TabFault, slope_div};
 use std::alloc::Global;
 use std::marker::Model;
@@ -52,9 +56,9 @@ impl PlayTables {
         let kinds = read_kinds(alloc, bytes)?;
         let by_number = ordered(alloc, &kinds)?;
         Ok(PlayTables {
-            sines: signed_entries(alloc, bytes, 8, 10240)?,
-            arcs: long_entries(alloc, bytes, 40968, 2049)?,
-            draws: byte_entries(alloc, bytes, 49164, 256)?,
+            sines: signed_entries(alloc, bytes, SINES_AT, SINES)?,
+            arcs: long_entries(alloc, bytes, ARCS_AT, ARCS)?,
+            draws: byte_entries(alloc, bytes, DRAWS_AT, DRAWS)?,
             kinds,
             by_number,
         })
@@ -80,6 +84,21 @@ impl PlayTables {
         ensures { result ≡ arc_of self.now slope }
     {
         self.arcs[slope as usize]
+    }
+
+    /// The angle of a way: 0 to the east, a quarter of a turn to the north, and 0 where there is no way.
+    pub fn angle_of(&self, dx: i32, dy: i32) -> u32
+        ensures { result ≡ angle self.now dx dy }
+    {
+        let east = dx.unsigned_abs();
+        let north = dy.unsigned_abs();
+        if north < east {
+            flat(dx < 0, dy < 0, self.arc(slope_div(north, east)))
+        } else if north == 0 {
+            0
+        } else {
+            steep(dx < 0, dy < 0, self.arc(slope_div(east, north)))
+        }
     }
 
     /// The random number with an index.

@@ -1,4 +1,4 @@
-use Rattle.std.proofs.Common.{◌≡◌, inl, inr, refl, sym, ◌∙◌}
+use Rattle.std.proofs.Common.{inl, inr, refl, sym, ◌∙◌}
 use Rattle.fixed_angle.specs.Tables.{kind_number}
 use Rattle.fixed_angle.proofs.Numbers.{new_kind, old_kind}
 use Rattle.fixed_angle.proofs.read.kind_fault.Goals as goal

@@ -1,4 +1,4 @@
-use Rattle.std.proofs.Common.{◌≡◌, ◌+◌, ◌*◌, ◌≤◌, length, ap, ◌∙◌, List, Some, None, subst}
+use Rattle.std.proofs.Common.{◌≡◌, ◌+◌, ◌*◌, length, ap, ◌∙◌, List, Some, None, subst}
 use Rattle.first_fault.specs.FirstFault.{FirstFault, for_each}
 use Rattle.fixed_angle.specs.declared.kind.Kind.{Kind}
 use Rattle.fixed_angle.specs.TableFile.{kind_at, kind_conditions}
