@@ -1,2 +1,4 @@
 pub mod TextLemmas
 pub mod TakeLemmas
+pub mod MeaningLemmas
+pub mod EndLemmas

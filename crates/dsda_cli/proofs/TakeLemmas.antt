@@ -33,3 +33,17 @@ missing_from files words (input ∷ inputs) (suc k) d lt is =
 pub missing_at : (told : Option Files) (words : List (List ℕ)) (inputs : List Input) (k : ℕ) (d : Input) (name : List ℕ) → k < length inputs → name ≡ word_at words (get_or inputs k d).word → IsUnheld name told → IfSome told (λ files. contents files words inputs ≡ None)
 missing_at None words inputs k d name lt is unheld = tt
 missing_at (Some files) words inputs k d name lt is unheld = missing_from files words inputs k d lt (ap (map.get files) (sym is) ∙ unheld)
+
+texts_as_lists : (texts : List (Vec ℕ Global)) → map (λ text. Some text.items) texts ≡ map Some (map (λ text. text.items) texts)
+texts_as_lists [] = refl
+texts_as_lists (text ∷ texts) = ap (λ rest. Some text.items ∷ rest) (texts_as_lists texts)
+
+-- what was taken, as lists of bytes
+pub told_lists : (told : Option Files) (words : List (List ℕ)) (inputs asked : List Input) (texts : List (Vec ℕ Global)) → asked ≡ inputs → IfSome told (λ files. map (front_of files words) asked ≡ map (λ text. Some text.items) texts) → IfSome told (λ files. map (front_of files words) inputs ≡ map Some (map (λ text. text.items) texts))
+told_lists None words inputs asked texts is taken = tt
+told_lists (Some files) words inputs asked texts is taken = ap (map (front_of files words)) (sym is) ∙ taken ∙ texts_as_lists texts
+
+-- the inputs that were asked for are those of the command
+pub missing_told : (told : Option Files) (words : List (List ℕ)) (inputs asked : List Input) → asked ≡ inputs → IfSome told (λ files. contents files words asked ≡ None) → IfSome told (λ files. contents files words inputs ≡ None)
+missing_told None words inputs asked is none = tt
+missing_told (Some files) words inputs asked is none = ap (contents files words) (sym is) ∙ none
