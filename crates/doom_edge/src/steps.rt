@@ -2,6 +2,7 @@
 ghost use Rattle.std.specs.Prelude.{◌≡◌, ◌+◌, ◌≤◌};
 ghost use Rattle.doom_edge.specs.Counts.{raised};
 
+use crate::counts::raise;
 use std::marker::Model;
 
 /// How many tic steps and how many page steps were made. A tic step is one tic of a game played in a world.
@@ -19,16 +20,6 @@ impl Model for Steps {
     ghost Value = { Counts };
 
     ghost view = { λ steps. record { tics = steps.tics; pages = steps.pages } };
-}
-
-// A count after some more: it stops at the end of its type.
-#[tactic(auto, unfolding(crate::specs::Counts::raised))]
-fn raise(count: u64, by: u64) -> u64
-    ensures raised { result ≡ raised count by }
-    ensures most { result ≤ count + by }
-    ensures least { count ≤ result }
-{
-    count.saturating_add(by)
 }
 
 impl Steps {
