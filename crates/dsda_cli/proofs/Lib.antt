@@ -2,3 +2,4 @@ pub mod TextLemmas
 pub mod TakeLemmas
 pub mod MeaningLemmas
 pub mod EndLemmas
+pub mod ReadingLemmas
