@@ -1,4 +1,10 @@
 //! The script of an editing session: the commands of a text, or the first fault in it.
 #![tactic(auto)]
 
+mod commands;
+mod fault;
+mod numbers;
 mod text;
+
+pub use commands::{Command, Entry, Script};
+pub use fault::{Kind, ScriptFault};

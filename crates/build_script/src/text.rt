@@ -1,9 +1,11 @@
 // The lines of a text and the words of a line, each taken from the front. Bytes need not be UTF-8.
-ghost use Rattle.std.specs.Prelude.{◌≡◌, ◌≤◌, ◌==◌, not, length};
+ghost use Rattle.std.specs.Prelude.{◌≡◌, ◌≤◌, ◌==◌, ℕ, List, not, length};
 ghost use Rattle.std.specs.List.{position, position_or_len};
 ghost use Rattle.std.specs.Iterator.{YieldsFirstRef, item_count};
 ghost use Rattle.std.specs.Str.Lines.{lines, strip_carriage_return};
 ghost use Rattle.build_script.specs.Text.{words, is_blank};
+
+use std::marker::Model;
 
 /// A space or a tab.
 fn is_blank(byte: u8) -> bool
@@ -51,27 +53,43 @@ fn without_carriage_return(line: &[u8]) -> &[u8]
 
 /// The lines that are left of a text. Each ends at an LF, or at the end of the text.
 #[derive(Drop)]
-pub struct Lines<'a>(pub &'a [u8]);
+pub struct Lines<'a> {
+    text: &'a [u8],
+}
+
+impl<'a> Model for Lines<'a> {
+    ghost Value = { List (List ℕ) };
+
+    ghost view = { λ left. lines left.text.now };
+}
+
+impl<'a> Lines<'a> {
+    pub fn new(text: &'a [u8]) -> Self
+        ensures { result ≡ lines text.now }
+    {
+        Lines { text }
+    }
+}
 
 impl<'a> Iterator for Lines<'a> {
     type Item = &'a [u8];
 
-    ghost next_gives = { YieldsFirstRef (λ left. lines left.0.now) };
+    ghost next_gives = { YieldsFirstRef (λ left. left) };
 
-    ghost remaining = { item_count (λ left. lines left.0.now) };
+    ghost remaining = { item_count (λ left. left) };
 
     fn next(&mut self) -> Option<&'a [u8]> {
-        let text = self.0;
+        let text = self.text;
         if text.is_empty() {
             return None;
         }
         match first_line_feed(text) {
             Some(end) => {
-                self.0 = &text[end + 1..];
+                self.text = &text[end + 1..];
                 Some(without_carriage_return(&text[..end]))
             }
             None => {
-                self.0 = &[];
+                self.text = &[];
                 Some(text)
             }
         }
@@ -80,20 +98,36 @@ impl<'a> Iterator for Lines<'a> {
 
 /// The words that are left of a line, which stand between blanks.
 #[derive(Drop)]
-pub struct Words<'a>(pub &'a [u8]);
+pub struct Words<'a> {
+    line: &'a [u8],
+}
+
+impl<'a> Model for Words<'a> {
+    ghost Value = { List (List ℕ) };
+
+    ghost view = { λ left. words left.line.now };
+}
+
+impl<'a> Words<'a> {
+    pub fn new(line: &'a [u8]) -> Self
+        ensures { result ≡ words line.now }
+    {
+        Words { line }
+    }
+}
 
 impl<'a> Iterator for Words<'a> {
     type Item = &'a [u8];
 
-    ghost next_gives = { YieldsFirstRef (λ left. words left.0.now) };
+    ghost next_gives = { YieldsFirstRef (λ left. left) };
 
-    ghost remaining = { item_count (λ left. words left.0.now) };
+    ghost remaining = { item_count (λ left. left) };
 
     fn next(&mut self) -> Option<&'a [u8]> {
-        let line = self.0;
+        let line = self.line;
         let text = &line[word_start(line)?..];
         let (word, rest) = text.split_at(word_len(text));
-        self.0 = rest;
+        self.line = rest;
         Some(word)
     }
 }
