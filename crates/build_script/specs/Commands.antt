@@ -1,6 +1,5 @@
 -- The commands of a script: what each is written as, and the first fault in a line that is none.
-use Rattle.std.specs.Prelude.{ℕ, ℤ, pos, negsuc, ◌≤ℤ◌, Bool, List, [], ◌∷◌, codes, if◌then◌else◌, unsigned_abs, Result, Ok, Err, Option, Some, None}
-use Rattle.std.specs.Int.{int_max, int_rem_euclid}
+use Rattle.std.specs.Prelude.{ℕ, ℤ, pos, negsuc, ◌≡◌, List, [], ◌∷◌, codes, if◌then◌else◌, unsigned_abs, Result, Ok, Err, Option, Some, None}
 use Rattle.std.specs.Str.{bytes_eq}
 use Rattle.lmp_codec.specs.declared.input.Tic.{Tic}
 use Rattle.build_script.specs.declared.numbers.Bounds.{Bounds}
@@ -8,7 +7,10 @@ use Rattle.build_script.specs.declared.fault.Kind.{Kind}
 use Rattle.build_script.specs.declared.fault.Kind.TheVariants.{Word, Missing}
 use Rattle.build_script.specs.declared.commands.Command.{Command}
 use Rattle.build_script.specs.declared.commands.Command.TheVariants.{Seek, Put, Insert, Delete, Cut, Repeat}
+use Rattle.build_script.specs.declared.judge.Name.{Name}
+use Rattle.build_script.specs.declared.judge.Name.TheVariants as names
 use Rattle.build_script.specs.Numbers.{number_within}
+use Rattle.build_script.specs.Tics.{tic_of}
 
 -- Words are judged from left to right: what follows is judged only where this one has no fault.
 infixl 10 ◌>>=◌
@@ -20,6 +22,11 @@ abbrev pub ◌>>=◌ : {A B : Type 0} → Result A Kind → (A → Result B Kind
 abbrev pub next_number : Bounds → List (List ℕ) → Result (ℤ × List (List ℕ)) Kind
 next_number bounds [] = Err Missing
 next_number bounds (word ∷ rest) = number_within bounds word >>= λ number. Ok (number, rest)
+
+-- what a step of the reading gave, and the words that it left, are what these say
+abbrev pub Reads : {A : Type 0} → Result A Kind → List (List ℕ) → Result (A × List (List ℕ)) Kind → Type 0
+Reads (Ok x) left read = read ≡ Ok (x, left)
+Reads (Err kind) left read = read ≡ Err kind
 
 -- nothing may follow the last word that a command needs
 abbrev pub complete : {A : Type 0} → A → List (List ℕ) → Result A Kind
@@ -48,17 +55,6 @@ count_bounds = record { least = pos 1; greatest = pos 1000000 }
 
 -- ---- what the words after a command's name say
 
--- The tic of four numbers within their bounds; its turn is a byte, so it is taken modulo 256. No tic has a forward of
--- -128, and none within its bounds is below -127: the greater of the two is the forward itself.
-abbrev pub tic_of : ℤ → ℤ → ℤ → ℤ → Tic
-tic_of forward side turn buttons = record {
-  forward = int_max (negsuc 126) forward;
-  side = side;
-  turn = unsigned_abs (int_rem_euclid turn (pos 256));
-  buttons = unsigned_abs buttons;
-  above_end_byte = ?
-}
-
 -- forward, side, turn and buttons
 abbrev pub tic_in : List (List ℕ) → Result Tic Kind
 tic_in words = do
@@ -78,13 +74,22 @@ count_in words = do
   count ← next_number count_bounds words
   complete (unsigned_abs count.0) count.1
 
+-- the name that a word is
+abbrev pub name_of : List ℕ → Option Name
+name_of word =
+    if bytes_eq word (codes "seek") then Some names.Seek
+    else if bytes_eq word (codes "put") then Some names.Put
+    else if bytes_eq word (codes "insert") then Some names.Insert
+    else if bytes_eq word (codes "delete") then Some names.Delete
+    else if bytes_eq word (codes "cut") then Some names.Cut
+    else if bytes_eq word (codes "repeat") then Some names.Repeat
+    else None
+
 -- the command of this name, with the words after it
-abbrev pub command_of : List ℕ → List (List ℕ) → Result Command Kind
-command_of name words =
-    if bytes_eq name (codes "seek") then place_in words >>= (λ place. Ok (Seek place))
-    else if bytes_eq name (codes "put") then tic_in words >>= (λ tic. Ok (Put tic))
-    else if bytes_eq name (codes "insert") then tic_in words >>= (λ tic. Ok (Insert tic))
-    else if bytes_eq name (codes "delete") then complete Delete words
-    else if bytes_eq name (codes "cut") then complete Cut words
-    else if bytes_eq name (codes "repeat") then count_in words >>= (λ count. Ok (Repeat count))
-    else Err Word
+abbrev pub command_of : Name → List (List ℕ) → Result Command Kind
+command_of names.Seek words = place_in words >>= (λ place. Ok (Seek place))
+command_of names.Put words = tic_in words >>= (λ tic. Ok (Put tic))
+command_of names.Insert words = tic_in words >>= (λ tic. Ok (Insert tic))
+command_of names.Delete words = complete Delete words
+command_of names.Cut words = complete Cut words
+command_of names.Repeat words = count_in words >>= (λ count. Ok (Repeat count))

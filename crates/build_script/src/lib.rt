@@ -3,8 +3,11 @@
 
 mod commands;
 mod fault;
+mod judge;
 mod numbers;
+mod reading;
 mod text;
 
 pub use commands::{Command, Entry, Script};
 pub use fault::{Kind, ScriptFault};
+pub use reading::read_script;
