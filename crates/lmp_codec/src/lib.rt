@@ -16,7 +16,7 @@ mod write;
 pub use fault::{DemoFault, Memory};
 pub use head::Header;
 pub use input::Tic;
-pub use read::read_demo;
+pub use read::{MOST_TICS, read_demo};
 pub use whole::{Demo, Tics};
 pub use write::write_demo;
 
