@@ -26,7 +26,7 @@ delivered_behind put told before mid after took ends = record {
   files = ends.files ∙ ap (with_put put) took.files;
   text = rw (← took.text) ends.text;
   no_put = λ e. ends.no_put e ∙ took.puts;
-  no_push = λ e. ends.no_push e ∙ took.pushes
+  no_push = λ e. ends.no_push e ∙ took.pushes;
 }
 
 put_fault_behind : {sure_then sure_now : Type 0} (stays : sure_then → sure_now) (put : Option (List ℕ × List ℕ)) (before mid after : Seen) → OnlyTook before mid → IsPutFault sure_now put mid after → IsPutFault sure_then put before after
@@ -36,7 +36,7 @@ put_fault_behind stays (Some put) before mid after took ends = record {
   unsure = λ sure. ends.unsure (stays sure);
   files = rw (← took.files) ends.files;
   text = ends.text ∙ took.text;
-  no_push = ends.no_push ∙ took.pushes
+  no_push = ends.no_push ∙ took.pushes;
 }
 
 memory_behind : (put : Option (List ℕ × List ℕ)) (before mid : Seen) (now : Option Files) → OnlyTook before mid → (now ≡ mid.files) ⊎ (now ≡ with_put put mid.files) → (now ≡ before.files) ⊎ (now ≡ with_put put before.files)
@@ -54,7 +54,7 @@ ends_behind stays outcome before mid after status.ReadFault took ends = record {
   files = ends.files ∙ took.files;
   text = ends.text ∙ took.text;
   no_put = ends.no_put ∙ took.puts;
-  no_push = ends.no_push ∙ took.pushes
+  no_push = ends.no_push ∙ took.pushes;
 }
 ends_behind stays outcome before mid after status.WriteFault took ends = put_fault_behind stays (put_of outcome) before mid after took ends
 ends_behind stays outcome before mid after status.NoteFault took ends = record {
@@ -63,12 +63,12 @@ ends_behind stays outcome before mid after status.NoteFault took ends = record {
   files = ends.files ∙ ap (with_put (put_of outcome)) took.files;
   text = rw (← took.text) ends.text;
   no_put = λ e. ends.no_put e ∙ took.puts;
-  pushed = ends.pushed
+  pushed = ends.pushed;
 }
 ends_behind stays outcome before mid after status.Memory took ends = record {
   files = memory_behind (put_of outcome) before mid after.files took ends.files;
   text = ends.text ∙ took.text;
-  no_put = λ e. ends.no_put e ∙ took.puts
+  no_put = λ e. ends.no_put e ∙ took.puts;
 }
 ends_behind stays outcome before mid after status.Usage took ends = (ends.0, delivered_behind (put_of outcome) (told_of outcome) before mid after took ends.1)
 ends_behind stays outcome before mid after (status.Refused fault) took ends = (ends.0, delivered_behind (put_of outcome) (told_of outcome) before mid after took ends.1)
@@ -95,12 +95,12 @@ take_fault_ends words command before after take_fault.Failed is took cause missi
   files = took.files;
   text = took.text;
   no_put = took.puts;
-  no_push = took.pushes
+  no_push = took.pushes;
 }
 take_fault_ends words command before after take_fault.Memory is took cause missing = record {
   files = inl took.files;
   text = took.text;
-  no_put = λ e. took.puts
+  no_put = λ e. took.puts;
 }
 
 answers_if : (told : Option Files) (words : List (List ℕ)) (outcome : Outcome) (ended : Status) → ((ended ≡ status_of outcome) ⊎ (ended ≡ status.Memory)) → IfSome told (λ files. outcome ≡ outcome_of words files) → Answers words told ended

@@ -3,3 +3,4 @@ pub mod TakeLemmas
 pub mod MeaningLemmas
 pub mod EndLemmas
 pub mod ReadingLemmas
+pub mod EditLemmas

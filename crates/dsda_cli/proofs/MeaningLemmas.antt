@@ -31,7 +31,7 @@ wholes_next files words input inputs text texts None is front rest = cc
 wholes_next files words input inputs text texts (Some whole) is front rest = record {
   wholes = whole ∷ rest.wholes;
   held = rw is (ap (option_map (λ values. whole ∷ values)) rest.held);
-  fronts = (cc, rest.fronts)
+  fronts = (cc, rest.fronts);
 }
 
 wholes_of : (files : Files) (words : List (List ℕ)) (inputs : List Input) (texts : List (List ℕ)) → map (front_of files words) inputs ≡ map Some texts → Wholes files words inputs texts
@@ -71,8 +71,9 @@ alike_next true input inputs whole text wholes texts test test_whole is rest =
 alike_next false input inputs whole text wholes texts test test_whole is (inl rest) =
     let short : length whole ≤ input.limit + 1 = within input.limit (length whole) test_whole in
     inl (record {
-      none = rw test rest.none; none_whole = rw test_whole rest.none_whole;
-      same = ap (λ t. t ∷ texts) (is ∙ take_all (input.limit + 1) whole short) ∙ ap (λ ts. whole ∷ ts) rest.same
+      none = rw test rest.none;
+      none_whole = rw test_whole rest.none_whole;
+      same = ap (λ t. t ∷ texts) (is ∙ take_all (input.limit + 1) whole short) ∙ ap (λ ts. whole ∷ ts) rest.same;
     })
 alike_next false input inputs whole text wholes texts test test_whole is (inr rest) =
     inr (record { text = rest.text; whole = rest.whole; first = rw test rest.first; first_whole = rw test_whole rest.first_whole; same = rest.same })

@@ -191,7 +191,7 @@ demo_of-long text is =
     let parts : text ≡ is.header ++ (flat_map tic_bytes is.tics ++ is.next ∷ is.rest) = is.front ∙ append_assoc is.header (flat_map tic_bytes is.tics) (is.next ∷ is.rest) in
     let len = length (is.header ++ (flat_map tic_bytes is.tics ++ is.next ∷ is.rest)) in
     let most : tics_of len most_tics (flat_map tic_bytes is.tics ++ is.next ∷ is.rest) ≡ Err DemoLong =
-      subst (λ most. tics_of len most (flat_map tic_bytes is.tics ++ is.next ∷ is.rest) ≡ Err DemoLong) is.full (tics_of-long len is.tics is.next is.rest is.form.fits is.goes_on)
+    subst (λ most. tics_of len most (flat_map tic_bytes is.tics ++ is.next ∷ is.rest) ≡ Err DemoLong) is.full (tics_of-long len is.tics is.next is.rest is.form.fits is.goes_on)
     in
     ap demo_of parts
     ∙ demo_of-header is.header (flat_map tic_bytes is.tics ++ is.next ∷ is.rest) is.form.valid
@@ -215,10 +215,10 @@ demo_of-behind : (text more header : List ℕ) (tics : List Tic) → MayBeWritte
 demo_of-behind text more header tics form missing long e =
     let whole = form.valid.whole in
     let front : take header_len text ≡ header =
-      sym (take-append-le header_len text more long) ∙ ap (take header_len) (sym e) ∙ subst (λ n. take n (header ++ (flat_map tic_bytes tics ++ end_byte ∷ [])) ≡ header) whole (take-append_seam header _)
+    sym (take-append-le header_len text more long) ∙ ap (take header_len) (sym e) ∙ subst (λ n. take n (header ++ (flat_map tic_bytes tics ++ end_byte ∷ [])) ≡ header) whole (take-append_seam header _)
     in
     let tail : flat_map tic_bytes tics ++ end_byte ∷ [] ≡ drop header_len text ++ more =
-      sym (subst (λ n. drop n (header ++ (flat_map tic_bytes tics ++ end_byte ∷ [])) ≡ flat_map tic_bytes tics ++ end_byte ∷ []) whole (drop-append_seam header _)) ∙ ap (drop header_len) e ∙ drop-append-le header_len text more long
+    sym (subst (λ n. drop n (header ++ (flat_map tic_bytes tics ++ end_byte ∷ [])) ≡ flat_map tic_bytes tics ++ end_byte ∷ []) whole (drop-append_seam header _)) ∙ ap (drop header_len) e ∙ drop-append-le header_len text more long
     in
     let parts : text ≡ header ++ drop header_len text = sym (take-append-drop header_len text) ∙ ap (λ bytes. bytes ++ drop header_len text) front in
     ap demo_of parts
@@ -251,10 +251,10 @@ demo_of-head text place behind is =
     let byte : (k : ℕ) → k < header_len → slice_index (take header_len text) k ≡ slice_index text k = λ k h. get_or-take header_len text k 0 h in
     let inside : place < length (take header_len text) = simp length-take (omega (arith, is.in_header, is.in_text)) in
     let broken : may_stand (0 + place) (slice_index (take header_len text) place) ≡ false =
-      subst (λ at. may_stand at (slice_index (take header_len text) place) ≡ false) (sym (zero-add place)) (ap (may_stand place) (byte place is.in_header) ∙ is.broken)
+    subst (λ at. may_stand at (slice_index (take header_len text) place) ≡ false) (sym (zero-add place)) (ap (may_stand place) (byte place is.in_header) ∙ is.broken)
     in
     let first : first_break 0 (take header_len text) ≡ Some (0 + place, slice_index (take header_len text) place) =
-      first_break-some 0 place (take header_len text) inside broken (λ j h. subst (λ at. may_stand at (slice_index (take header_len text) j) ≡ true) (sym (zero-add j)) (ap (may_stand j) (byte j (omega (arith, is.in_header))) ∙ is.first j h))
+    first_break-some 0 place (take header_len text) inside broken (λ j h. subst (λ at. may_stand at (slice_index (take header_len text) j) ≡ true) (sym (zero-add j)) (ap (may_stand j) (byte j (omega (arith, is.in_header))) ∙ is.first j h))
     in
     ap (demo_behind text) (first ∙ ap (λ at. Some (at, slice_index (take header_len text) place)) (zero-add place))
     ∙ ap (λ zero_place. Err (if zero_place then DemoVersion (slice_index (take header_len text) place) else DemoHead place)) (differ place 0 (λ e. omega arith))

@@ -11,6 +11,10 @@ use Rattle.doom_edge.specs.declared.sink.PushFault.{PushFault}
 use Rattle.doom_edge.specs.declared.sink.PushFault.TheVariants as push_fault
 use Rattle.lmp_codec.specs.declared.fault.DemoFault.{DemoFault}
 use Rattle.lmp_codec.specs.declared.fault.DemoFault.TheVariants as demo_fault
+use Rattle.build_script.specs.declared.fault.ScriptFault.{ScriptFault}
+use Rattle.build_script.specs.declared.fault.ScriptFault.TheVariants as script_fault
+use Rattle.build_edits.specs.declared.fault.EditFault.{EditFault}
+use Rattle.build_edits.specs.declared.fault.EditFault.TheVariants as edit_fault
 use Rattle.dsda_cli.specs.Commands.{word_at}
 use Rattle.dsda_cli.specs.Refusal.{line_of}
 use Rattle.dsda_cli.specs.Ending.{with_put}
@@ -30,6 +34,16 @@ front_of files words input = option_map (take (input.limit + 1)) (map.get files 
 abbrev pub stop_of_demo : DemoFault → Stop
 stop_of_demo demo_fault.Memory = stop.Memory
 stop_of_demo fault = stop.Refused (input_fault.Demo fault)
+
+-- a script's fault as an end of the work
+abbrev pub stop_of_script : ScriptFault → Stop
+stop_of_script (script_fault.Line line kind) = stop.Refused (input_fault.Script line kind)
+stop_of_script script_fault.Memory = stop.Memory
+
+-- an edit's fault, with its line, as an end of the work
+abbrev pub stop_of_edit : ℕ → EditFault → Stop
+stop_of_edit line edit_fault.Memory = stop.Memory
+stop_of_edit line fault = stop.Refused (input_fault.Edit line fault)
 
 -- what was returned, seen by `view`, is this answer, unless there was no memory
 abbrev pub Gives : {A B : Type 0} → (A → B) → Result A Stop → Result B InputFault → Type 0

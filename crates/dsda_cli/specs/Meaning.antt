@@ -1,23 +1,28 @@
 -- What a command line means: a function of its words and of the files that they name. It knows nothing of the order in
 -- which files are taken, put and pushed.
-use Rattle.std.specs.Prelude.{ℕ, ◌==◌, ◌||◌, ◌+◌, Bool, true, not, map, Result, Ok, Err, Option, Some, None, List, [], ◌∷◌, length, nat_lt, option_map, find, position, slice_get, unwrap_or}
+use Rattle.std.specs.Prelude.{ℕ, false, map, fold, Result, Ok, Err, Option, Some, None, List, [], ◌∷◌, length, nat_lt, option_map, find, slice_get, unwrap_or}
 use Rattle.std.specs.List.{zip}
-use Rattle.std.specs.Option.{option_map_or}
-use Rattle.std.specs.Str.Lines.{lines}
 use Rattle.std.specs.FinMap as map
 use Rattle.doom_edge.specs.Devices.{Files}
 use Rattle.lmp_codec.specs.Demo.{written}
 use Rattle.lmp_codec.specs.declared.input.Tic.{Tic}
 use Rattle.lmp_codec.specs.declared.whole.Demo.{Demo}
 use Rattle.lmp_codec.specs.declared.fault.DemoFault.{DemoFault}
+use Rattle.build_script.specs.Script.{script_of}
+use Rattle.build_script.specs.declared.fault.Kind.{Kind}
+use Rattle.build_script.specs.declared.commands.Entry.{Entry}
+use Rattle.build_script.specs.declared.commands.Command.{Command as Edit}
+use Rattle.build_script.specs.declared.commands.Command.TheVariants as script
+use Rattle.build_edits.specs.Parts.{Parts, all_tics}
+use Rattle.build_edits.specs.Edits.{seek_outcome, put_outcome, insert_outcome, delete_outcome, cut_outcome, repeat_outcome}
+use Rattle.build_edits.specs.declared.fault.EditFault.{EditFault}
 use Rattle.dsda_cli.specs.Commands.{word_at, command_of, inputs_of, out_of}
 use Rattle.dsda_cli.specs.Reading.{demo_of}
 use Rattle.dsda_cli.specs.declared.command.Command.{Command}
-use Rattle.dsda_cli.specs.declared.command.Command.TheVariants.{Edit}
+use Rattle.dsda_cli.specs.declared.command.Command.TheVariants as command
 use Rattle.dsda_cli.specs.declared.command.Input.{Input}
 use Rattle.dsda_cli.specs.declared.fault.InputFault.{InputFault}
 use Rattle.dsda_cli.specs.declared.fault.InputFault.TheVariants as input_fault
-use Rattle.dsda_cli.specs.declared.fault.Kind.TheVariants.{Word}
 
 -- What a command that is carried out gives: its report, and the demo that it puts, if it puts one.
 pub record Work : Type 0 where
@@ -35,22 +40,39 @@ abbrev pub as_demo : Result Demo DemoFault → Result Demo InputFault
 as_demo (Ok demo) = Ok demo
 as_demo (Err fault) = Err (input_fault.Demo fault)
 
--- a space or a tab
-abbrev pub is_blank : ℕ → Bool
-is_blank byte = byte == 32 || byte == 9
+-- a script; its first fault is the input's
+abbrev pub as_script : Result (List Entry) (ℕ × Kind) → Result (List Entry) InputFault
+as_script (Ok entries) = Ok entries
+as_script (Err fault) = Err (input_fault.Script fault.0 fault.1)
 
--- a line that is passed over: no word stands in it, or its first word begins with `#`
-abbrev pub is_passed : List ℕ → Bool
-is_passed line = option_map_or (λ byte. byte == 35) (find (λ byte. not (is_blank byte)) line) true
+-- what a command makes of the tics before the cursor and of those from it on
+abbrev pub edited_by : Edit → Parts → Result Parts EditFault
+edited_by (script.Seek place) parts = seek_outcome place parts
+edited_by (script.Put tic) parts = put_outcome tic parts
+edited_by (script.Insert tic) parts = insert_outcome tic parts
+edited_by script.Delete parts = delete_outcome parts
+edited_by script.Cut parts = cut_outcome parts
+edited_by (script.Repeat count) parts = repeat_outcome count parts
 
--- no line, or the first line of a script that is not passed over, counted from 0
-abbrev pub after_line : List Tic → Option ℕ → Result (List Tic) InputFault
-after_line tics None = Ok tics
-after_line tics (Some line) = Err (input_fault.Script (line + 1) Word)
+-- what a command of a line comes to; its fault is the line's
+abbrev pub at_line : ℕ → Result Parts EditFault → Result Parts InputFault
+at_line line (Ok parts) = Ok parts
+at_line line (Err fault) = Err (input_fault.Edit line fault)
 
--- the tics that a script makes of a demo's
+-- one command more; none is carried out after the first that is refused
+abbrev pub next_edit : Result Parts InputFault → Entry → Result Parts InputFault
+next_edit so_far entry = so_far >>= λ parts. at_line entry.line (edited_by entry.command parts)
+
+-- what the commands make of a tape, one after the other
+abbrev pub edits_of : List Entry → Parts → Result Parts InputFault
+edits_of entries parts = fold next_edit (Ok parts) entries
+
+-- the tics that a script leaves of a demo's
 unfoldable pub scripted : List ℕ → List Tic → Result (List Tic) InputFault
-scripted script tics = after_line tics (position (λ line. not (is_passed line)) (lines script))
+scripted script tics = do
+  entries ← as_script (script_of false script)
+  parts ← edits_of entries (record { before = []; after = tics })
+  Ok (all_tics parts)
 
 -- `edit`: the demo with the tics that the script leaves, and nothing to report
 unfoldable pub edited : List ℕ → List ℕ → Result Work InputFault
@@ -65,7 +87,7 @@ text_at texts place = unwrap_or (slice_get texts place) []
 
 -- what each command makes of the texts of its inputs
 abbrev pub worked : Command → List (List ℕ) → Result Work InputFault
-worked Edit texts = edited (text_at texts 0) (text_at texts 1)
+worked command.Edit texts = edited (text_at texts 0) (text_at texts 1)
 
 -- the first input whose text is above its limit
 abbrev pub too_large : List Input → List (List ℕ) → Option (Input × List ℕ)

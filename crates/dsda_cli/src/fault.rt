@@ -1,18 +1,10 @@
 ghost use Rattle.std.specs.Prelude.{◌≡◌};
 
+use build_edits::EditFault;
+use build_script::Kind;
 use lmp_codec::DemoFault;
 use std::marker::Model;
 use thiserror::Error;
-
-/// What is wrong with a line of the script.
-#[derive(Clone, Copy, Debug, PartialEq, Eq)]
-pub enum Kind {
-    Word,
-    Number,
-    Range,
-    Missing,
-    Space,
-}
 
 /// An answer of a reader that may also be want of memory.
 pub trait MayLackMemory {
@@ -22,6 +14,13 @@ pub trait MayLackMemory {
 impl MayLackMemory for DemoFault {
     ghost use Rattle.std.specs.Prelude.{◌≡◌};
     ghost use Rattle.lmp_codec.specs.declared.DemoFault.TheVariants as variants;
+
+    ghost is_memory = { λ fault. fault ≡ variants.Memory };
+}
+
+impl MayLackMemory for EditFault {
+    ghost use Rattle.std.specs.Prelude.{◌≡◌};
+    ghost use Rattle.build_edits.specs.declared.fault.EditFault.TheVariants as variants;
 
     ghost is_memory = { λ fault. fault ≡ variants.Memory };
 }
@@ -67,4 +66,6 @@ pub enum InputFault {
     Demo(Refused<DemoFault>),
     #[error("the script is faulty")]
     Script(u32, Kind),
+    #[error("an edit is refused")]
+    Edit(u32, Refused<EditFault>),
 }

@@ -3,6 +3,7 @@
 
 mod command;
 mod deliver;
+mod edits;
 mod fault;
 mod product;
 mod program;
@@ -12,7 +13,7 @@ mod text;
 mod words;
 mod work;
 
-pub use fault::{InputFault, Kind, MayLackMemory, Refused};
+pub use fault::{InputFault, MayLackMemory, Refused};
 pub use program::run;
 pub use status::Status;
 pub use text::refusal_text;

@@ -2,6 +2,7 @@
 ghost use Rattle.std.specs.Prelude.{◌≡◌};
 
 use crate::fault::{InputFault, Refused};
+use build_script::ScriptFault;
 use doom_edge::Memory;
 use lmp_codec::DemoFault;
 use std::marker::Model;
@@ -41,6 +42,20 @@ impl From<DemoFault> for Stop {
         match fault {
             DemoFault::Memory => Stop::Memory,
             refused => Stop::Refused(InputFault::Demo(Refused::new(refused))),
+        }
+    }
+}
+
+impl From<ScriptFault> for Stop {
+    ghost use Rattle.std.specs.Prelude.{◌≡◌};
+    ghost use Rattle.dsda_cli.specs.Inside.{stop_of_script};
+
+    ghost from_gives = { λ fault stop. stop ≡ stop_of_script fault };
+
+    fn from(fault: ScriptFault) -> Self {
+        match fault {
+            ScriptFault::Line(line, kind) => Stop::Refused(InputFault::Script(line, kind)),
+            ScriptFault::Memory => Stop::Memory,
         }
     }
 }

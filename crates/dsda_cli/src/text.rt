@@ -1,7 +1,9 @@
 ghost use Rattle.std.specs.Prelude.{IfOk, ◌≡◌, string_bytes};
-ghost use Rattle.dsda_cli.specs.Refusal.{text_of, line_of, demo_text, kind_text};
+ghost use Rattle.dsda_cli.specs.Refusal.{text_of, line_of, demo_text, kind_text, edit_text};
 
-use crate::fault::{InputFault, Kind, Refused};
+use crate::fault::{InputFault, Refused};
+use build_edits::EditFault;
+use build_script::Kind;
 use doom_edge::Memory;
 use lmp_codec::DemoFault;
 use std::alloc::{AllocError, Global};
@@ -20,6 +22,10 @@ pub fn refusal_text(alloc: Global, fault: &InputFault) -> Result<Vec<u8>, Memory
         InputFault::Script(line, kind) => {
             let kind = kind_text(*kind);
             format!(in alloc; "line {line}: {kind}")
+        }
+        InputFault::Edit(line, refused) => {
+            let text = edit_text(alloc, refused)?;
+            format!(in alloc; "line {line}: {text}")
         }
     };
     Ok(text.map_err(memory)?.into_bytes())
@@ -57,5 +63,16 @@ fn kind_text(kind: Kind) -> &'static str
         Kind::Range => "range",
         Kind::Missing => "missing",
         Kind::Space => "space",
+    }
+}
+
+fn edit_text(alloc: Global, refused: &Refused<EditFault>) -> Result<String, AllocError>
+    ensures { IfOk result (λ text. string_bytes text ≡ edit_text refused.now) }
+{
+    match refused.fault() {
+        EditFault::Place(count) => format!(in alloc; "place {count}"),
+        EditFault::Before => String::from_str(alloc, "before"),
+        EditFault::TooLong => String::from_str(alloc, "long"),
+        EditFault::Memory => unreachable!("want of memory is no refusal"),
     }
 }

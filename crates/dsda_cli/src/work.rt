@@ -2,13 +2,14 @@
 ghost use Rattle.std.specs.Prelude.{◌≡◌, ◌≤◌, map, option_map, length, IfOk};
 ghost use Rattle.lmp_codec.specs.Demo.{most_tics};
 ghost use Rattle.dsda_cli.specs.Reading.{demo_of};
-ghost use Rattle.dsda_cli.specs.Meaning.{as_demo, scripted, edited, worked, answer_of, too_large, text_at};
+ghost use Rattle.dsda_cli.specs.Meaning.{as_demo, edited, worked, answer_of, too_large, text_at};
 ghost use Rattle.dsda_cli.specs.Inside.{Gives};
 
 use crate::command::{Command, Input, inputs_of};
+use crate::edits::scripted;
 use crate::fault::InputFault;
 use crate::product::{Product, Stop};
-use lmp_codec::{Demo, Tics, read_demo, write_demo};
+use lmp_codec::{Demo, read_demo, write_demo};
 use std::alloc::Global;
 
 /// What the command makes of these texts, or their first fault. A text above its limit is refused before any is read.
@@ -57,8 +58,8 @@ fn edit(alloc: Global, demo: &[u8], script: &[u8]) -> Result<Product, Stop>
     ensures { Gives (λ work. work) result (edited demo.now script.now) }
 {
     let Demo { header, tics } = read(alloc, demo)?;
-    let tics = scripted(script, tics)?;
-    let bytes = write_demo(alloc, &header, tics.as_list())?;
+    let tape = scripted(alloc, script, tics)?;
+    let bytes = write_demo(alloc, &header, tape.tics())?;
     Ok(Product {
         report: Vec::new(alloc),
         demo: Some(bytes),
@@ -71,13 +72,4 @@ fn read(alloc: Global, text: &[u8]) -> Result<Demo, Stop>
     ensures within { IfOk result (λ demo. length demo.tics ≤ most_tics) }
 {
     Ok(read_demo(alloc, text)?)
-}
-
-/// The tics that a script makes of a demo's.
-fn scripted(script: &[u8], tics: Tics) -> Result<Tics, Stop>
-    requires { length tics ≤ most_tics }
-    ensures left { Gives (λ tics. tics) result (scripted script.now tics) }
-    ensures within { IfOk result (λ tics. length tics ≤ most_tics) }
-{
-    Ok(tics)
 }

@@ -25,7 +25,7 @@ returns-in-Ok-clause-ends g c =
       outcome = outcome_under (word_at c.args.words.now (out_of c.args.command)) answer;
       meant = taken_meant (g.S.Shelf.holds c.args.shelf.now) c.args.words.now c.args.command texts c.requires told;
       ends = ends_behind (λ sure. (taken.stays_sure sure.0, sure.1)) _ before mid after c.conclude.result took ended;
-      later = record { takes = omega (arith, taken.takes, later.takes); puts = omega (arith, taken.puts, later.puts); pushes = omega (arith, later.pushes) }
+      later = record { takes = omega (arith, taken.takes, later.takes); puts = omega (arith, taken.puts, later.puts); pushes = omega (arith, later.pushes) };
     }
 
 -- A take that fails, or finds no memory, ends the run.
@@ -39,5 +39,5 @@ returns-in-Err-clause-ends g c =
       outcome = told_outcome c.args.words.now (g.S.Shelf.holds c.args.shelf.now);
       meant = told_outcome_meant c.args.words.now (g.S.Shelf.holds c.args.shelf.now);
       ends = rw c.status_of_take.ensures (take_fault_ends c.args.words.now c.args.command before after c.in-Err.fault c.requires took (λ failed. taken.cause (c.in-Err.is ∙ ap Err failed)) (λ failed sure. missing_told (g.S.Shelf.holds c.args.shelf.now) c.args.words.now (inputs_of c.args.command) _ c.inputs_of.ensures (taken.missing (c.in-Err.is ∙ ap Err failed) sure.0)));
-      later = record { takes = taken.takes; puts = omega (arith, taken.puts); pushes = omega arith }
+      later = record { takes = taken.takes; puts = omega (arith, taken.puts); pushes = omega arith };
     }
