@@ -1,9 +1,5 @@
 -- What `parse` gives for a word that a script spells a number by.
-<<<<<<< HEAD
-use Rattle.std.proofs.Common.{◌≡◌, ◌≢◌, ℕ, ◌+◌, ◌*◌, ◌^◌, ◌<◌, ◌≤◌, Bool, true, false, cond, not, ◌&&◌, List, [], ◌∷◌, length, drop, get_or, refl, ap, sym, ◌∙◌, arith, nat_eq, nat_lt, nat_le, Some, None, Option, Result, Ok, Err, ◌⊎◌, inl, inr, ℤ, pos, neg_ℤ, if◌then◌else◌, rules, subst, w64}
-=======
 use Rattle.std.proofs.Common.{◌≡◌, ◌≢◌, ℕ, ◌^◌, ◌<◌, ◌≤◌, Bool, true, false, cond, ◌&&◌, List, [], ◌∷◌, length, drop, get_or, refl, ap, arith, nat_le, Some, None, Result, Ok, Err, ◌⊎◌, inl, inr, ℤ, pos, neg_ℤ, if◌then◌else◌, w64}
->>>>>>> 9f3e27788fa849a2f5a50df953750408fbbc55e5
 use Rattle.std.specs.Prelude.{◌==◌}
 use Rattle.std.specs.List.{list_all}
 use Rattle.std.specs.Char.{is_ascii_digit}
@@ -16,10 +12,6 @@ use Rattle.std.proofs.lemmas.Str.{IsUtf8-from_ascii}
 use Rattle.std.proofs.lemmas.Str.Ascii.{IsAscii-nil, IsAscii-cons}
 use Rattle.std.proofs.lemmas.Str.Parse.{IsNumeralModel, numerals_by_value, tells_all_ascii_digits, parse_signed_minus, parse_signed_plain, digits_value_short}
 use Rattle.build_script.specs.declared.numbers.Bounds.{Bounds}
-<<<<<<< HEAD
-use Rattle.build_script.specs.declared.fault.Kind.{Kind}
-=======
->>>>>>> 9f3e27788fa849a2f5a50df953750408fbbc55e5
 use Rattle.build_script.specs.declared.fault.Kind.TheVariants.{Number}
 use Rattle.build_script.specs.Numbers.{digits_in, in_bounds, is_number, number_of, number_within}
 
@@ -96,11 +88,7 @@ parsed_signed word r true sign h e few =
     let below : digits_value 10 (drop 1 word) < 10 ^ 18 = short (drop 1 word) good some in
     let room : digits_value 10 (drop 1 word) ≤ 2 ^ 63 = omega arith in
     let read : OkIff r (0 < length (drop 1 word)) (neg_ℤ (pos (digits_value 10 (drop 1 word)))) =
-<<<<<<< HEAD
-        middle _ _ _ (neg_ℤ (pos (digits_value 10 (drop 1 word)))) r (all_digits (drop 1 word) good) room (parse_signed_minus numerals w64 word r h minus) in
-=======
     middle _ _ _ (neg_ℤ (pos (digits_value 10 (drop 1 word)))) r (all_digits (drop 1 word) good) room (parse_signed_minus numerals w64 word r h minus) in
->>>>>>> 9f3e27788fa849a2f5a50df953750408fbbc55e5
     rw (digits, value) (spelled (drop 1 word) (neg_ℤ (pos (digits_value 10 (drop 1 word)))) r good some read)
 parsed_signed word r false sign h e few =
     let digits : digits_in word ≡ word = rw sign refl in
@@ -111,11 +99,7 @@ parsed_signed word r false sign h e few =
     let room : digits_value 10 word < 2 ^ 63 = omega arith in
     let unsigned : get_or word 0 0 ≢ 45 = λ minus. eqb-false (get_or word 0 0) 45 sign minus in
     let read : OkIff r (0 < length word) (pos (digits_value 10 word)) =
-<<<<<<< HEAD
-        middle _ _ _ (pos (digits_value 10 word)) r (all_digits word good) room (parse_signed_plain numerals w64 word r h (no_plus word good) unsigned) in
-=======
     middle _ _ _ (pos (digits_value 10 word)) r (all_digits word good) room (parse_signed_plain numerals w64 word r h (no_plus word good) unsigned) in
->>>>>>> 9f3e27788fa849a2f5a50df953750408fbbc55e5
     rw (digits, value) (spelled word (pos (digits_value 10 word)) r good some read)
 
 -- what `parse` gives for a minus or none and 18 digits at most is what the word spells

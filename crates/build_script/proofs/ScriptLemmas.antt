@@ -1,21 +1,10 @@
 -- How the script of the lines that are left goes as the script of all lines does.
-<<<<<<< HEAD
-use Rattle.std.proofs.Common.{◌≡◌, ◌∙◌, ap, sym, refl, ℕ, List, [], ◌∷◌, ◌++◌, append_assoc, append-nil, Result, Ok, Err, Option, Some, None}
-use Rattle.std.specs.Option.{option_to_list}
-use Rattle.std.specs.List.{filter_map, cons_option}
-use Rattle.build_script.specs.declared.fault.Kind.{Kind}
-use Rattle.build_script.specs.declared.fault.ScriptFault.{ScriptFault}
-use Rattle.build_script.specs.declared.fault.ScriptFault.TheVariants.{Line, Memory}
-use Rattle.build_script.specs.declared.commands.Entry.{Entry}
-use Rattle.build_script.specs.Script.{entry_of, fault_of, first_fault_or, script_from, Gives, IsFault}
-=======
 use Rattle.std.proofs.Common.{◌≡◌, ap, refl, ℕ, List, [], ◌∷◌, ◌++◌, append_assoc, append-nil, Result, Ok, Err, Option, Some, None}
 use Rattle.std.specs.Option.{option_to_list}
 use Rattle.std.specs.List.{filter_map, cons_option}
 use Rattle.build_script.specs.declared.fault.Kind.{Kind}
 use Rattle.build_script.specs.declared.commands.Entry.{Entry}
 use Rattle.build_script.specs.Script.{entry_of, fault_of, first_fault_or, script_from}
->>>>>>> 9f3e27788fa849a2f5a50df953750408fbbc55e5
 
 -- a script behind the entries that were read already
 abbrev pub with_front : List Entry → Result (List Entry) (ℕ × Kind) → Result (List Entry) (ℕ × Kind)
@@ -33,11 +22,3 @@ pub script_from-cons : (front : List Entry) (numbered : ℕ × List ℕ) (rest :
     → with_front (front ++ option_to_list (entry_of numbered)) (script_from rest) ≡ with_front front (script_from (numbered ∷ rest))
 script_from-cons front numbered rest none =
     rw none (moved front (filter_map entry_of rest) (entry_of numbered) (filter_map fault_of rest))
-<<<<<<< HEAD
-
--- a faulty line is the first, since none before it was
-pub script_from-faulty : (front : List Entry) (numbered : ℕ × List ℕ) (rest : List (ℕ × List ℕ)) (fault : ℕ × Kind) → fault_of numbered ≡ Some fault
-    → with_front front (script_from (numbered ∷ rest)) ≡ Err fault
-script_from-faulty front numbered rest fault faulty = rw faulty refl
-=======
->>>>>>> 9f3e27788fa849a2f5a50df953750408fbbc55e5

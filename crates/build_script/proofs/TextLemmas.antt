@@ -1,23 +1,12 @@
 -- How the first line and the first word are cut off a text.
-<<<<<<< HEAD
-use Rattle.std.proofs.Common.{◌≡◌, ℕ, ◌+◌, ◌-◌, ◌<◌, ◌≤◌, suc, Bool, true, false, cond, not, List, [], ◌∷◌, ◌++◌, length, take, drop, get_or, refl, ap, sym, ◌∙◌, arith, filter, nat_lt, nat_eq, Some, None, add-one, drop-cons, Option, ◌⊎◌, inl, inr}
-use Rattle.std.specs.Prelude.{◌==◌}
-use Rattle.std.specs.Option.{unwrap_or}
-use Rattle.std.proofs.lemmas.Grind.{common_steps}
-=======
 use Rattle.std.proofs.Common.{◌≡◌, ℕ, ◌+◌, ◌-◌, ◌<◌, ◌≤◌, suc, Bool, true, false, cond, not, List, [], ◌∷◌, length, take, drop, get_or, refl, ap, sym, ◌∙◌, arith, filter, nat_lt, Some, None, add-one, drop-cons, ◌⊎◌, inl, inr}
 use Rattle.std.specs.Prelude.{◌==◌}
 use Rattle.std.specs.Option.{unwrap_or}
->>>>>>> 9f3e27788fa849a2f5a50df953750408fbbc55e5
 use Rattle.std.proofs.lemmas.Bool.{ltb-true, lt-ltb}
 use Rattle.std.proofs.lemmas.Bool.Decides.{nat_tests}
 use Rattle.std.proofs.lemmas.List.Sums.{prefix_len-le-length, prefix_len-drop_yes, passes_at_first, fails_before_first}
 use Rattle.std.proofs.lemmas.List.Folds.{length-prefix_len}
-<<<<<<< HEAD
-use Rattle.std.specs.List.{slice_split, All, position, position_or_len, prefix_len, before_first, after_first}
-=======
 use Rattle.std.specs.List.{slice_split, All, position, position_or_len, before_first, after_first}
->>>>>>> 9f3e27788fa849a2f5a50df953750408fbbc55e5
 use Rattle.std.specs.Str.Lines.{lines, lines_of_parts, strip_carriage_return}
 use Rattle.std.proofs.lemmas.List.Splits.{slice_split_first, slice_split_none, slice_split-cons_yes, length-slice_split}
 use Rattle.std.proofs.lemmas.List.{take_rest}

@@ -1,13 +1,7 @@
 -- Two tics of equal numbers are one: that a forward is above the end byte has one proof at most.
-<<<<<<< HEAD
-use Rattle.std.proofs.Common.{◌≡◌, ◌∙◌, ap, sym, ℕ, ◌<◌, ◌≤◌, ◌^◌, ℤ, pos, negsuc, ◌≤ℤ◌, arith, to_z, of_z, w8, w64, FitsSigned, to_z-of_z, nat_abs}
-use Rattle.std.proofs.Math.Dec.{T_prop}
-use Rattle.std.specs.Int.{int_max, int_rem_euclid}
-=======
 use Rattle.std.proofs.Common.{◌≡◌, ℤ, pos, negsuc, ◌≤ℤ◌, arith, to_z, of_z, w8, w64}
 use Rattle.std.proofs.Math.Dec.{T_prop}
 use Rattle.std.specs.Int.{int_max}
->>>>>>> 9f3e27788fa849a2f5a50df953750408fbbc55e5
 use Rattle.std.specs.Int.Signed.{le_z}
 use Rattle.std.proofs.lemmas.Int.{ints, clamps}
 use mathlib.Core.HLevel.{is_prop→PathP}
@@ -22,11 +16,7 @@ same_tic tic other forward side turn buttons = λ i. record {
   side = side i;
   turn = turn i;
   buttons = buttons i;
-<<<<<<< HEAD
-  above_end_byte = is_prop→PathP (λ j. negsuc 126 ≤ℤ forward j) (λ j. ≤ℤ_prop (negsuc 126) (forward j)) tic.above_end_byte other.above_end_byte i
-=======
   above_end_byte = is_prop→PathP (λ j. negsuc 126 ≤ℤ forward j) (λ j. ≤ℤ_prop (negsuc 126) (forward j)) tic.above_end_byte other.above_end_byte i;
->>>>>>> 9f3e27788fa849a2f5a50df953750408fbbc55e5
 }
 
 pub forward_byte : (x : ℤ) → negsuc 126 ≤ℤ x → x ≤ℤ pos 127 → to_z w8 (of_z w8 (to_z w64 (of_z w64 x))) ≡ int_max (negsuc 126) x

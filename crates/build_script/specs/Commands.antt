@@ -33,25 +33,6 @@ abbrev pub complete : {A : Type 0} → A → List (List ℕ) → Result A Kind
 complete x [] = Ok x
 complete x (word ∷ rest) = Err Word
 
-<<<<<<< HEAD
--- ---- the bounds of each number
-
-abbrev pub place_bounds : Bounds
-place_bounds = record { least = pos 0; greatest = pos 1000000 }
-
-abbrev pub forward_bounds : Bounds
-forward_bounds = record { least = negsuc 126; greatest = pos 127 }
-
-abbrev pub side_bounds : Bounds
-side_bounds = record { least = negsuc 127; greatest = pos 127 }
-
-abbrev pub turn_bounds : Bounds
-turn_bounds = record { least = negsuc 127; greatest = pos 255 }
-
-abbrev pub buttons_bounds : Bounds
-buttons_bounds = record { least = pos 0; greatest = pos 255 }
-
-=======
 -- ---- the bounds of each number (`negsuc n` is -1 - n)
 
 -- a place for the cursor: 0 to 1,000,000
@@ -75,17 +56,12 @@ abbrev pub buttons_bounds : Bounds
 buttons_bounds = record { least = pos 0; greatest = pos 255 }
 
 -- how many times a tic is put: 1 to 1,000,000
->>>>>>> 9f3e27788fa849a2f5a50df953750408fbbc55e5
 abbrev pub count_bounds : Bounds
 count_bounds = record { least = pos 1; greatest = pos 1000000 }
 
 -- ---- what the words after a command's name say
 
-<<<<<<< HEAD
--- forward, side, turn and buttons
-=======
 -- the tic of a put or an insert: forward, side, turn and buttons
->>>>>>> 9f3e27788fa849a2f5a50df953750408fbbc55e5
 abbrev pub tic_in : List (List ℕ) → Result Tic Kind
 tic_in words = do
   forward ← next_number forward_bounds words
@@ -94,19 +70,13 @@ tic_in words = do
   buttons ← next_number buttons_bounds turn.1
   complete (tic_of forward.0 side.0 turn.0 buttons.0) buttons.1
 
-<<<<<<< HEAD
-=======
 -- the place of a seek
->>>>>>> 9f3e27788fa849a2f5a50df953750408fbbc55e5
 abbrev pub place_in : List (List ℕ) → Result ℕ Kind
 place_in words = do
   place ← next_number place_bounds words
   complete (unsigned_abs place.0) place.1
 
-<<<<<<< HEAD
-=======
 -- the count of a repeat
->>>>>>> 9f3e27788fa849a2f5a50df953750408fbbc55e5
 abbrev pub count_in : List (List ℕ) → Result ℕ Kind
 count_in words = do
   count ← next_number count_bounds words

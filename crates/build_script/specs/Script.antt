@@ -1,9 +1,5 @@
 -- The script of a text: the commands of its lines, or the first fault in them.
-<<<<<<< HEAD
-use Rattle.std.specs.Prelude.{◌≡◌, ℕ, Bool, nat_eq, List, [], ◌∷◌, ◌++◌, codes, if◌then◌else◌, Result, Ok, Err, Option, Some, None}
-=======
 use Rattle.std.specs.Prelude.{◌≡◌, ℕ, Bool, nat_eq, List, [], ◌∷◌, codes, if◌then◌else◌, Result, Ok, Err, Option, Some, None}
->>>>>>> 9f3e27788fa849a2f5a50df953750408fbbc55e5
 use Rattle.std.specs.List.{starts_with, enumerate_from, filter_map}
 use Rattle.std.specs.Str.Lines.{lines}
 use Rattle.build_script.specs.declared.fault.Kind.{Kind}

@@ -1,13 +1,6 @@
-<<<<<<< HEAD
--- The lines of a script and the words of a line, as lists of bytes.
-use Rattle.std.specs.Prelude.{ℕ, Bool, ◌==◌, ◌||◌, List, length, filter, nat_lt}
-use Rattle.std.specs.List.{slice_split}
-pub use Rattle.std.specs.Str.Lines
-=======
 -- The words of a line of a script, as lists of bytes.
 use Rattle.std.specs.Prelude.{ℕ, Bool, ◌==◌, ◌||◌, List, length, filter, nat_lt}
 use Rattle.std.specs.List.{slice_split}
->>>>>>> 9f3e27788fa849a2f5a50df953750408fbbc55e5
 
 -- a space or a tab
 abbrev pub is_blank : ℕ → Bool

@@ -21,9 +21,5 @@ tic_of forward side turn buttons = record {
   side = side;
   turn = unsigned_abs (int_rem_euclid turn (pos 256));
   buttons = unsigned_abs buttons;
-<<<<<<< HEAD
-  above_end_byte = int_max_at_least (negsuc 126) forward
-=======
   above_end_byte = int_max_at_least (negsuc 126) forward;
->>>>>>> 9f3e27788fa849a2f5a50df953750408fbbc55e5
 }

@@ -9,12 +9,6 @@ use crate::numbers::{Bounds, number_within};
 use crate::text::Words;
 use lmp_codec::Tic;
 
-<<<<<<< HEAD
-const PLACE: Bounds = Bounds {
-    least: 0,
-    greatest: 1_000_000,
-};
-=======
 /// The most tics that a session may have.
 const MOST_TICS: i64 = 1_000_000;
 
@@ -23,45 +17,29 @@ const PLACE: Bounds = Bounds {
     greatest: MOST_TICS,
 };
 
->>>>>>> 9f3e27788fa849a2f5a50df953750408fbbc55e5
 const FORWARD: Bounds = Bounds {
     least: -127,
     greatest: 127,
 };
-<<<<<<< HEAD
-=======
 
->>>>>>> 9f3e27788fa849a2f5a50df953750408fbbc55e5
 const SIDE: Bounds = Bounds {
     least: -128,
     greatest: 127,
 };
-<<<<<<< HEAD
-=======
 
->>>>>>> 9f3e27788fa849a2f5a50df953750408fbbc55e5
 const TURN: Bounds = Bounds {
     least: -128,
     greatest: 255,
 };
-<<<<<<< HEAD
-=======
 
->>>>>>> 9f3e27788fa849a2f5a50df953750408fbbc55e5
 const BUTTONS: Bounds = Bounds {
     least: 0,
     greatest: 255,
 };
-<<<<<<< HEAD
-const COUNT: Bounds = Bounds {
-    least: 1,
-    greatest: 1_000_000,
-=======
 
 const COUNT: Bounds = Bounds {
     least: 1,
     greatest: MOST_TICS,
->>>>>>> 9f3e27788fa849a2f5a50df953750408fbbc55e5
 };
 
 /// The number that the next word spells.

@@ -1,10 +1,7 @@
 //! The script of an editing session: the commands of a text, or the first fault in it.
-<<<<<<< HEAD
-=======
 //!
 //! A line of a script holds one command, and its words are separated by spaces and tabs: `seek T`, `put F S T B`,
 //! `insert F S T B`, `delete`, `cut` and `repeat N`. A number is a minus or none, and 1 to 18 decimal digits.
->>>>>>> 9f3e27788fa849a2f5a50df953750408fbbc55e5
 #![tactic(auto)]
 
 mod commands;
@@ -17,9 +14,6 @@ mod text;
 pub use commands::{Command, Entry, Script};
 pub use fault::{Kind, ScriptFault};
 pub use reading::read_script;
-<<<<<<< HEAD
-=======
 
 #[cfg(test)]
 mod tests;
->>>>>>> 9f3e27788fa849a2f5a50df953750408fbbc55e5

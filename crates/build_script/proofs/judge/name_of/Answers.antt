@@ -8,11 +8,7 @@ returns-in-insert c =
     rw text refl
 
 pub returns-in-delete : goal.returns-in-delete
-<<<<<<< HEAD
-returns-in-delete c = 
-=======
 returns-in-delete c =
->>>>>>> 9f3e27788fa849a2f5a50df953750408fbbc55e5
     let text : c.args.word.now ≡ codes "delete" = text_from_reads c.args.word.now (codes "delete") (omega arith) (search rules) in
     rw text refl
 

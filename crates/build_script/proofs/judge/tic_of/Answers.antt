@@ -1,8 +1,4 @@
-<<<<<<< HEAD
-use Rattle.std.proofs.Common.{◌≡◌, ◌∙◌, ap, rules, ℤ, pos, FitsSigned, to_z, of_z, w64, to_z-of_z, nat_abs}
-=======
 use Rattle.std.proofs.Common.{◌≡◌, ◌∙◌, ap, rules, pos, FitsSigned, to_z, of_z, w64, to_z-of_z, nat_abs}
->>>>>>> 9f3e27788fa849a2f5a50df953750408fbbc55e5
 use Rattle.std.specs.Int.{int_rem_euclid}
 use Rattle.build_script.specs.Tics.{tic_of}
 use Rattle.build_script.proofs.TicLemmas.{same_tic, forward_byte, side_byte}

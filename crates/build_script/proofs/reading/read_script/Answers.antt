@@ -1,8 +1,4 @@
-<<<<<<< HEAD
-use Rattle.std.proofs.Common.{◌≡◌, ◌∙◌, ◌+◌, ◌∷◌, rules, arith}
-=======
 use Rattle.std.proofs.Common.{◌≡◌, ◌∙◌, ◌+◌, ◌∷◌, arith}
->>>>>>> 9f3e27788fa849a2f5a50df953750408fbbc55e5
 use Rattle.std.specs.List.{enumerate_from}
 use Rattle.build_script.specs.Script.{script_of, script_from}
 use Rattle.build_script.proofs.ScriptLemmas.{with_front, script_from-cons}
@@ -12,10 +8,6 @@ pub loop-line-preserved : goal.loop-line-preserved
 loop-line-preserved c =
     let count : c.in_ok-number.number ≡ c.loop-line.number + 1 = grind (arith, c.in_ok-number.ensures.value, c.checked_add.ensures) in
     let before : with_front c.loop-line.entries.items (script_from (enumerate_from c.in_ok-number.number (c.in-Some.line.now ∷ c.next.new.self))) ≡ script_of c.args.worlds c.args.bytes.now
-<<<<<<< HEAD
-        = rw count (rw c.in-Some.ensures.steps at c.loop-line.invariant) in
-=======
     = rw count (rw c.in-Some.ensures.steps at c.loop-line.invariant) in
->>>>>>> 9f3e27788fa849a2f5a50df953750408fbbc55e5
     rw c.in_ok-read_line.ensures.added
     (script_from-cons c.loop-line.entries.items (c.in_ok-number.number, c.in-Some.line.now) (enumerate_from (c.in_ok-number.number + 1) c.next.new.self) c.in_ok-read_line.ensures.faultless ∙ before)

@@ -1,14 +1,7 @@
-<<<<<<< HEAD
-use Rattle.std.proofs.Common.{◌≡◌, ◌∙◌, sym, rules, not, Some, None, [], ◌∷◌, ◌-◌, length, take, drop}
-use Rattle.std.specs.List.{position, position_or_len}
-use Rattle.std.proofs.lemmas.List.{take_rest}
-use Rattle.build_script.specs.Text.{words, is_blank}
-=======
 use Rattle.std.proofs.Common.{◌≡◌, ◌∙◌, sym, rules, not, Some, None, [], ◌-◌, length, take, drop}
 use Rattle.std.specs.List.{position, position_or_len}
 use Rattle.std.proofs.lemmas.List.{take_rest}
 use Rattle.build_script.specs.Text.{is_blank}
->>>>>>> 9f3e27788fa849a2f5a50df953750408fbbc55e5
 use Rattle.build_script.proofs.TextLemmas.{no_word, first_word}
 use Rattle.build_script.proofs.text.WordsIterator.next.Goals as goal
 
