@@ -1,10 +1,15 @@
-//! The program's commands, over a shelf and a sink.
+//! The program's commands, each over a shelf of files and a sink for the report.
+//!
+//! `edit DEMO SCRIPT OUT` reads a demo and a script, carries the script's commands out on the demo's tics, and puts the
+//! demo that they leave. What a command line comes to is a function of its words and of the files that they name; `run`
+//! ends as it says, or by a device's fault or want of memory.
 #![tactic(auto)]
 
 mod command;
 mod deliver;
 mod edits;
 mod fault;
+pub mod laws;
 mod product;
 mod program;
 mod status;
@@ -18,3 +23,6 @@ pub use program::run;
 pub use status::Status;
 pub use text::refusal_text;
 pub use words::Words;
+
+#[cfg(test)]
+mod tests;
