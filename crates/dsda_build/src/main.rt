@@ -33,7 +33,14 @@ fn status(rt: &HostRuntime) -> Status {
     let mut shelf = FileShelf::new(rt);
     let mut note = OutSink::new(rt);
     let mut steps = Steps::new();
-    run(rt.alloc(), &words, &mut shelf, &mut note, &NoGate, &mut steps)
+    run(
+        rt.alloc(),
+        &words,
+        &mut shelf,
+        &mut note,
+        &NoGate,
+        &mut steps,
+    )
 }
 
 fn main(rt: HostRuntime) -> ExitCode {
