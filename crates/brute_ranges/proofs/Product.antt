@@ -61,12 +61,12 @@ length-uses ranges forward side turn = length-map (values ranges.using) (λ usin
 length-turns : (ranges : TicRanges) (forward side : ℤ) → length (turns ranges forward side) ≡ width ranges.turn * width ranges.using
 length-turns ranges forward side =
     rows_length (uses ranges forward side) (width ranges.using) (values ranges.turn) (length-uses ranges forward side)
-        ∙ ap (λ n. n * width ranges.using) (length-values ranges.turn)
+    ∙ ap (λ n. n * width ranges.using) (length-values ranges.turn)
 
 length-sides : (ranges : TicRanges) (forward : ℤ) → length (sides ranges forward) ≡ width ranges.side * (width ranges.turn * width ranges.using)
 length-sides ranges forward =
     rows_length (turns ranges forward) (width ranges.turn * width ranges.using) (values ranges.side) (length-turns ranges forward)
-        ∙ ap (λ n. n * (width ranges.turn * width ranges.using)) (length-values ranges.side)
+    ∙ ap (λ n. n * (width ranges.turn * width ranges.using)) (length-values ranges.side)
 
 tics_are : (ranges : TicRanges) → tics_of ranges ≡ flat_map (sides ranges) (values ranges.forward)
 tics_are ranges = refl
@@ -74,13 +74,13 @@ tics_are ranges = refl
 pub tic_count_is : (ranges : TicRanges) → tic_count ranges ≡ width ranges.forward * (width ranges.side * (width ranges.turn * width ranges.using))
 tic_count_is ranges =
     ap length (tics_are ranges)
-        ∙ rows_length (sides ranges) (width ranges.side * (width ranges.turn * width ranges.using)) (values ranges.forward) (length-sides ranges)
-        ∙ ap (λ n. n * (width ranges.side * (width ranges.turn * width ranges.using))) (length-values ranges.forward)
+    ∙ rows_length (sides ranges) (width ranges.side * (width ranges.turn * width ranges.using)) (values ranges.forward) (length-sides ranges)
+    ∙ ap (λ n. n * (width ranges.side * (width ranges.turn * width ranges.using))) (length-values ranges.forward)
 
 -- the tic at a place
 tic_in_product : (ranges : TicRanges) (f s t u : ℕ) (d : Tic) → f < width ranges.forward → s < width ranges.side → t < width ranges.turn → u < width ranges.using
     → get_or (tics_of ranges) (f * (width ranges.side * (width ranges.turn * width ranges.using)) + (s * (width ranges.turn * width ranges.using) + (t * width ranges.using + u))) d
-        ≡ tic_of (ranges.forward.low +ℤ pos f) (ranges.side.low +ℤ pos s) (ranges.turn.low +ℤ pos t) (ranges.using.low +ℤ pos u)
+    ≡ tic_of (ranges.forward.low +ℤ pos f) (ranges.side.low +ℤ pos s) (ranges.turn.low +ℤ pos t) (ranges.using.low +ℤ pos u)
 tic_in_product ranges f s t u d f_in s_in t_in u_in =
     let wu = width ranges.using in
     let wt = width ranges.turn in
@@ -90,26 +90,28 @@ tic_in_product ranges f s t u d f_in s_in t_in u_in =
     let outer = mul-add-lt s (wt * wu) (t * wu + u) ws s_in turns_in in
     let sides_in : s * (wt * wu) + (t * wu + u) < ws * (wt * wu) = omega (arith, outer) in
     ap (λ (xs : List Tic). get_or xs (f * (ws * (wt * wu)) + (s * (wt * wu) + (t * wu + u))) d) (tics_are ranges)
-        ∙ rows_at (sides ranges) (ws * (wt * wu)) (values ranges.forward) (length-sides ranges) f (s * (wt * wu) + (t * wu + u)) (pos 0) d (rw (length-values ranges.forward) f_in) sides_in
-        ∙ in_side (get_or (values ranges.forward) f (pos 0)) turns_in
-        ∙ ap (λ n. tic_of n (ranges.side.low +ℤ pos s) (ranges.turn.low +ℤ pos t) (ranges.using.low +ℤ pos u)) (get_or-values ranges.forward f f_in)
+    ∙ rows_at (sides ranges) (ws * (wt * wu)) (values ranges.forward) (length-sides ranges) f (s * (wt * wu) + (t * wu + u)) (pos 0) d (rw (length-values ranges.forward) f_in) sides_in
+    ∙ in_side (get_or (values ranges.forward) f (pos 0)) turns_in
+    ∙ ap (λ n. tic_of n (ranges.side.low +ℤ pos s) (ranges.turn.low +ℤ pos t) (ranges.using.low +ℤ pos u)) (get_or-values ranges.forward f f_in)
   where
     in_use : (forward side turn : ℤ) → get_or (uses ranges forward side turn) u d ≡ tic_of forward side turn (ranges.using.low +ℤ pos u)
     in_use forward side turn =
         get_or-map (λ using. tic_of forward side turn using) (values ranges.using) u (pos 0) d (rw (length-values ranges.using) u_in)
-            ∙ ap (tic_of forward side turn) (get_or-values ranges.using u u_in)
+        ∙ ap (tic_of forward side turn) (get_or-values ranges.using u u_in)
+
     in_turn : (forward side : ℤ) → get_or (turns ranges forward side) (t * width ranges.using + u) d ≡ tic_of forward side (ranges.turn.low +ℤ pos t) (ranges.using.low +ℤ pos u)
     in_turn forward side =
         rows_at (uses ranges forward side) (width ranges.using) (values ranges.turn) (length-uses ranges forward side) t u (pos 0) d (rw (length-values ranges.turn) t_in) u_in
-            ∙ in_use forward side (get_or (values ranges.turn) t (pos 0))
-            ∙ ap (λ n. tic_of forward side n (ranges.using.low +ℤ pos u)) (get_or-values ranges.turn t t_in)
+        ∙ in_use forward side (get_or (values ranges.turn) t (pos 0))
+        ∙ ap (λ n. tic_of forward side n (ranges.using.low +ℤ pos u)) (get_or-values ranges.turn t t_in)
+
     in_side : (forward : ℤ) → t * width ranges.using + u < width ranges.turn * width ranges.using
         → get_or (sides ranges forward) (s * (width ranges.turn * width ranges.using) + (t * width ranges.using + u)) d
-            ≡ tic_of forward (ranges.side.low +ℤ pos s) (ranges.turn.low +ℤ pos t) (ranges.using.low +ℤ pos u)
+        ≡ tic_of forward (ranges.side.low +ℤ pos s) (ranges.turn.low +ℤ pos t) (ranges.using.low +ℤ pos u)
     in_side forward turns_in =
         rows_at (turns ranges forward) (width ranges.turn * width ranges.using) (values ranges.side) (length-turns ranges forward) s (t * width ranges.using + u) (pos 0) d (rw (length-values ranges.side) s_in) turns_in
-            ∙ in_turn forward (get_or (values ranges.side) s (pos 0))
-            ∙ ap (λ n. tic_of forward n (ranges.turn.low +ℤ pos t) (ranges.using.low +ℤ pos u)) (get_or-values ranges.side s s_in)
+        ∙ in_turn forward (get_or (values ranges.side) s (pos 0))
+        ∙ ap (λ n. tic_of forward n (ranges.turn.low +ℤ pos t) (ranges.using.low +ℤ pos u)) (get_or-values ranges.side s s_in)
 
 -- a place is the sum of its digits
 digits : (place wu wt ws : ℕ) → place ≡ place / wu / wt / ws * (ws * (wt * wu)) + (place / wu / wt % ws * (wt * wu) + (place / wu % wt * wu + place % wu))
@@ -131,12 +133,12 @@ forward_place ranges place within some_use some_turn some_side =
 
 pub tic_at_place : (ranges : TicRanges) (place : ℕ) (d : Tic) → place < tic_count ranges → 0 < width ranges.using → 0 < width ranges.turn → 0 < width ranges.side
     → get_or (tics_of ranges) place d
-        ≡ tic_of (ranges.forward.low +ℤ pos (place / width ranges.using / width ranges.turn / width ranges.side)) (ranges.side.low +ℤ pos (place / width ranges.using / width ranges.turn % width ranges.side))
-            (ranges.turn.low +ℤ pos (place / width ranges.using % width ranges.turn)) (ranges.using.low +ℤ pos (place % width ranges.using))
+    ≡ tic_of (ranges.forward.low +ℤ pos (place / width ranges.using / width ranges.turn / width ranges.side)) (ranges.side.low +ℤ pos (place / width ranges.using / width ranges.turn % width ranges.side))
+    (ranges.turn.low +ℤ pos (place / width ranges.using % width ranges.turn)) (ranges.using.low +ℤ pos (place % width ranges.using))
 tic_at_place ranges place d within some_use some_turn some_side =
     ap (λ n. get_or (tics_of ranges) n d) (digits place (width ranges.using) (width ranges.turn) (width ranges.side))
-        ∙ tic_in_product ranges (place / width ranges.using / width ranges.turn / width ranges.side) (place / width ranges.using / width ranges.turn % width ranges.side)
-            (place / width ranges.using % width ranges.turn) (place % width ranges.using) d (forward_place ranges place within some_use some_turn some_side) (omega arith) (omega arith) (omega arith)
+    ∙ tic_in_product ranges (place / width ranges.using / width ranges.turn / width ranges.side) (place / width ranges.using / width ranges.turn % width ranges.side)
+    (place / width ranges.using % width ranges.turn) (place % width ranges.using) d (forward_place ranges place within some_use some_turn some_side) (omega arith) (omega arith) (omega arith)
 
 -- how wide the ranges are
 natural_is : (n : ℤ) → pos 0 ≤ℤ n → pos (natural n) ≡ n
@@ -169,8 +171,10 @@ few_tics ranges sound =
     let s = width_is ranges.side sound.filled.side in
     let u = width_is ranges.using sound.filled.using in
     record {
-      forward = some_width ranges.forward sound.filled.forward; side = some_width ranges.side sound.filled.side;
-      turn = some_width ranges.turn sound.filled.turn; using = some_width ranges.using sound.filled.using;
+      forward = some_width ranges.forward sound.filled.forward;
+      side = some_width ranges.side sound.filled.side;
+      turn = some_width ranges.turn sound.filled.turn;
+      using = some_width ranges.using sound.filled.using;
       forwards = omega (arith, ints, f, sound.bounds.forward.0.0, sound.bounds.forward.1.1);
       sides = omega (arith, ints, s, sound.bounds.side.0.0, sound.bounds.side.1.1);
       turns = sound.bounds.turns;
@@ -222,12 +226,12 @@ tic_found ranges place wu wt ws f s t u made sound within wu_is wt_is ws_is ff f
     let few = few_tics ranges sound in
     let there = tic_at_place ranges place made within few.using few.turn few.side in
     let same : made ≡ tic_of f s t u =
-        is ∙ ap (λ n. tic_of n (to_z w16 (of_z w16 s)) (to_z w16 (of_z w16 t)) (to_z w16 (of_z w16 u))) (passed_on f ff)
-            ∙ ap (λ n. tic_of f n (to_z w16 (of_z w16 t)) (to_z w16 (of_z w16 u))) (passed_on s fs)
-            ∙ ap (λ n. tic_of f s n (to_z w16 (of_z w16 u))) (passed_on t ft)
-            ∙ ap (λ n. tic_of f s t n) (passed_on u fu) in
+    is ∙ ap (λ n. tic_of n (to_z w16 (of_z w16 s)) (to_z w16 (of_z w16 t)) (to_z w16 (of_z w16 u))) (passed_on f ff)
+    ∙ ap (λ n. tic_of f n (to_z w16 (of_z w16 t)) (to_z w16 (of_z w16 u))) (passed_on s fs)
+    ∙ ap (λ n. tic_of f s n (to_z w16 (of_z w16 u))) (passed_on t ft)
+    ∙ ap (λ n. tic_of f s t n) (passed_on u fu) in
     slice_get-get_or (tics_of ranges) place made within
-        ∙ ap (λ (x : Tic). Some x) (there ∙ rw (← wu_is, ← wt_is, ← ws_is) (rw (← f_is, ← s_is, ← t_is, ← u_is) refl) ∙ sym same)
+    ∙ ap (λ (x : Tic). Some x) (there ∙ rw (← wu_is, ← wt_is, ← ws_is) (rw (← f_is, ← s_is, ← t_is, ← u_is) refl) ∙ sym same)
 
 -- two places have two tics
 same_sum : (low : ℤ) (i j : ℕ) → low +ℤ pos i ≡ low +ℤ pos j → i ≡ j
@@ -264,21 +268,21 @@ tics_apart ranges d e x sound d_in e_in equal =
     let turn = ap (λ (tic : Tic). tic.turn) tics in
     let buttons = ap (λ (tic : Tic). tic.buttons) tics in
     let f : d / wu / wt / ws ≡ e / wu / wt / ws = same_sum ranges.forward.low (d / wu / wt / ws) (e / wu / wt / ws)
-        (same_forwards _ _ (omega (arith, ints, sound.bounds.forward.0.0)) (omega (arith, ints, sound.bounds.forward.0.0)) forward) in
+    (same_forwards _ _ (omega (arith, ints, sound.bounds.forward.0.0)) (omega (arith, ints, sound.bounds.forward.0.0)) forward) in
     let s : d / wu / wt % ws ≡ e / wu / wt % ws = same_sum ranges.side.low (d / wu / wt % ws) (e / wu / wt % ws) side in
     let d_turn : d / wu % wt < wt = mod-lt (d / wu) few.turn in
     let e_turn : e / wu % wt < wt = mod-lt (e / wu) few.turn in
     let d_use : d % wu < wu = mod-lt d few.using in
     let e_use : e % wu < wu = mod-lt e few.using in
     let t : d / wu % wt ≡ e / wu % wt = same_sum ranges.turn.low (d / wu % wt) (e / wu % wt)
-        (same_turn _ _ (omega (arith, ints, sound.bounds.turn.0.0)) (omega (arith, ints, place_below ranges.turn (d / wu % wt) sound.filled.turn d_turn, sound.bounds.turn.1.1))
-            (omega (arith, ints, sound.bounds.turn.0.0)) (omega (arith, ints, place_below ranges.turn (e / wu % wt) sound.filled.turn e_turn, sound.bounds.turn.1.1))
-            (omega (arith, ints, few.turns, d_turn)) (omega (arith, ints, few.turns, e_turn)) turn) in
+    (same_turn _ _ (omega (arith, ints, sound.bounds.turn.0.0)) (omega (arith, ints, place_below ranges.turn (d / wu % wt) sound.filled.turn d_turn, sound.bounds.turn.1.1))
+    (omega (arith, ints, sound.bounds.turn.0.0)) (omega (arith, ints, place_below ranges.turn (e / wu % wt) sound.filled.turn e_turn, sound.bounds.turn.1.1))
+    (omega (arith, ints, few.turns, d_turn)) (omega (arith, ints, few.turns, e_turn)) turn) in
     let u : d % wu ≡ e % wu = same_sum ranges.using.low (d % wu) (e % wu)
-        (same_use _ _ (omega (arith, ints, sound.bounds.using.0.0)) (omega (arith, ints, place_below ranges.using (d % wu) sound.filled.using d_use, sound.bounds.using.1.1))
-            (omega (arith, ints, sound.bounds.using.0.0)) (omega (arith, ints, place_below ranges.using (e % wu) sound.filled.using e_use, sound.bounds.using.1.1)) buttons) in
+    (same_use _ _ (omega (arith, ints, sound.bounds.using.0.0)) (omega (arith, ints, place_below ranges.using (d % wu) sound.filled.using d_use, sound.bounds.using.1.1))
+    (omega (arith, ints, sound.bounds.using.0.0)) (omega (arith, ints, place_below ranges.using (e % wu) sound.filled.using e_use, sound.bounds.using.1.1)) buttons) in
     digits d wu wt ws ∙ ap (λ n. n * (ws * (wt * wu)) + (d / wu / wt % ws * (wt * wu) + (d / wu % wt * wu + d % wu))) f
-        ∙ ap (λ n. e / wu / wt / ws * (ws * (wt * wu)) + (n * (wt * wu) + (d / wu % wt * wu + d % wu))) s
-        ∙ ap (λ n. e / wu / wt / ws * (ws * (wt * wu)) + (e / wu / wt % ws * (wt * wu) + (n * wu + d % wu))) t
-        ∙ ap (λ n. e / wu / wt / ws * (ws * (wt * wu)) + (e / wu / wt % ws * (wt * wu) + (e / wu % wt * wu + n))) u
-        ∙ sym (digits e wu wt ws)
+    ∙ ap (λ n. e / wu / wt / ws * (ws * (wt * wu)) + (n * (wt * wu) + (d / wu % wt * wu + d % wu))) s
+    ∙ ap (λ n. e / wu / wt / ws * (ws * (wt * wu)) + (e / wu / wt % ws * (wt * wu) + (n * wu + d % wu))) t
+    ∙ ap (λ n. e / wu / wt / ws * (ws * (wt * wu)) + (e / wu / wt % ws * (wt * wu) + (e / wu % wt * wu + n))) u
+    ∙ sym (digits e wu wt ws)

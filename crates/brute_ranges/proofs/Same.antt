@@ -22,9 +22,9 @@ pub tic_same : (a b : Tic) → a.forward ≡ b.forward → a.side ≡ b.side →
 unfolding made
 tic_same a b f s t u =
     ap (λ n. made a.forward n a.turn a.buttons a.above_end_byte) s
-        ∙ ap (λ n. made a.forward b.side n a.buttons a.above_end_byte) t
-        ∙ ap (λ n. made a.forward b.side b.turn n a.above_end_byte) u
-        ∙ same_forward a.forward b.forward b.side b.turn b.buttons a.above_end_byte f b.above_end_byte
+    ∙ ap (λ n. made a.forward b.side n a.buttons a.above_end_byte) t
+    ∙ ap (λ n. made a.forward b.side b.turn n a.above_end_byte) u
+    ∙ same_forward a.forward b.forward b.side b.turn b.buttons a.above_end_byte f b.above_end_byte
 
 -- what a cast to a byte and back leaves
 fits_byte : (n : ℤ) → negsuc 127 ≤ℤ n → n ≤ℤ pos 127 → FitsSigned w8 n
@@ -45,7 +45,7 @@ pub made_is : (f s t u : ℤ) (turn buttons : ℕ) (h : negsuc 126 ≤ℤ to_z w
     → (let code : Tic = record { forward = to_z w8 (of_z w8 (to_z w16 (of_z w16 f))); side = to_z w8 (of_z w8 (to_z w16 (of_z w16 s))); turn = turn; buttons = buttons; above_end_byte = h } in code ≡ tic_of f s t u)
 made_is f s t u turn buttons h ff fs ft fu f_in s_in turn_is buttons_is =
     tic_same (record { forward = to_z w8 (of_z w8 (to_z w16 (of_z w16 f))); side = to_z w8 (of_z w8 (to_z w16 (of_z w16 s))); turn = turn; buttons = buttons; above_end_byte = h }) (tic_of f s t u)
-        (byte_back f ff (omega (arith, ints, f_in.0)) f_in.1 ∙ greater f f_in.0)
-        (byte_back s fs s_in.0 s_in.1)
-        (turn_is ∙ ap turn_byte (to_z-of_z w16 t ft))
-        (buttons_is ∙ ap buttons_of (to_z-of_z w16 u fu))
+    (byte_back f ff (omega (arith, ints, f_in.0)) f_in.1 ∙ greater f f_in.0)
+    (byte_back s fs s_in.0 s_in.1)
+    (turn_is ∙ ap turn_byte (to_z-of_z w16 t ft))
+    (buttons_is ∙ ap buttons_of (to_z-of_z w16 u fu))

@@ -23,15 +23,15 @@ use Rattle.brute_ranges.proofs.Product.{rows_length, rows_at, counts_few, tics_a
 pub length-all : (ranges : TicRanges) (rest : List TicRanges) → length (all_sequences (ranges ∷ rest)) ≡ tic_count ranges * length (all_sequences rest)
 length-all ranges rest =
     rows_length (λ tic. map (λ sequence. tic ∷ sequence) (all_sequences rest)) (length (all_sequences rest)) (tics_of ranges)
-        (λ tic. length-map (all_sequences rest) (λ (sequence : List Tic). tic ∷ sequence))
+    (λ tic. length-map (all_sequences rest) (λ (sequence : List Tic). tic ∷ sequence))
 
 -- a sequence is a tic of the first ranges, and a sequence of the rest
 pub sequence-cons : (ranges : TicRanges) (rest : List TicRanges) (d e : ℕ) (tic : Tic) → d < tic_count ranges → e < length (all_sequences rest)
     → sequence_at (ranges ∷ rest) (d * length (all_sequences rest) + e) ≡ get_or (tics_of ranges) d tic ∷ sequence_at rest e
 sequence-cons ranges rest d e tic within inside =
     rows_at (λ x. map (λ sequence. x ∷ sequence) (all_sequences rest)) (length (all_sequences rest)) (tics_of ranges)
-        (λ x. length-map (all_sequences rest) (λ (sequence : List Tic). x ∷ sequence)) d e tic [] within inside
-        ∙ get_or-map (λ (sequence : List Tic). get_or (tics_of ranges) d tic ∷ sequence) (all_sequences rest) e [] [] inside
+    (λ x. length-map (all_sequences rest) (λ (sequence : List Tic). x ∷ sequence)) d e tic [] within inside
+    ∙ get_or-map (λ (sequence : List Tic). get_or (tics_of ranges) d tic ∷ sequence) (all_sequences rest) e [] [] inside
 
 -- the wheels count the sequences
 pub wheels_count : (wheels : List Wheel) (count : ℕ) → AreWheels wheels count → count ≡ length (all_sequences (ranges_of wheels))
@@ -71,7 +71,9 @@ wheel_at [] count i d are sound within = absurd (omega arith)
 wheel_at (w ∷ rest) count zero d are sound within =
     let few = counts_few w.ranges sound.0 in
     record {
-      sound = sound.0; tics = are.0; some_tic = omega (arith, are.0, few.some_tic, few.count);
+      sound = sound.0;
+      tics = are.0;
+      some_tic = omega (arith, are.0, few.some_tic, few.count);
       later = some_count rest w.later are.2 sound.1;
       divides = (1, omega (arith, are.1));
     }
@@ -80,7 +82,10 @@ wheel_at (w ∷ rest) count (suc i) d are sound within =
     let q = behind.divides.0 in
     let all = ap (λ n. w.tics * n) behind.divides.1 in
     record {
-      sound = behind.sound; tics = behind.tics; some_tic = behind.some_tic; later = behind.later;
+      sound = behind.sound;
+      tics = behind.tics;
+      some_tic = behind.some_tic;
+      later = behind.later;
       divides = (w.tics * q, omega (arith, are.1, all));
     }
 
@@ -123,14 +128,14 @@ tic_of_wheel (w ∷ rest) count k zero d are sound within there =
     let later = some_count rest w.later are.2 sound.1 in
     let high : k / w.later < w.tics = div_below k w.later w.tics later (omega (arith, are.1)) in
     ap (λ (xs : List Tic). slice_get xs zero) (sequence_split w rest count k are later within)
-        ∙ sym (slice_get-get_or (tics_of w.ranges) (k / w.later) none (rw (← are.0) high))
-        ∙ ap (slice_get (tics_of w.ranges)) (sym (mod-eq_of_lt high))
+    ∙ sym (slice_get-get_or (tics_of w.ranges) (k / w.later) none (rw (← are.0) high))
+    ∙ ap (slice_get (tics_of w.ranges)) (sym (mod-eq_of_lt high))
 tic_of_wheel (w ∷ rest) count k (suc i) d are sound within there =
     let later = some_count rest w.later are.2 sound.1 in
     let at = wheel_at rest w.later i d are.2 sound.1 (omega arith) in
     ap (λ (xs : List Tic). slice_get xs (suc i)) (sequence_split w rest count k are later within)
-        ∙ tic_of_wheel rest w.later (k % w.later) i d are.2 sound.1 (omega arith) (omega arith)
-        ∙ ap (slice_get (tics_of (get_or rest i d).ranges)) (digit_kept k w.later at.divides.0 (get_or rest i d).tics (get_or rest i d).later at.later at.divides.1)
+    ∙ tic_of_wheel rest w.later (k % w.later) i d are.2 sound.1 (omega arith) (omega arith)
+    ∙ ap (slice_get (tics_of (get_or rest i d).ranges)) (digit_kept k w.later at.divides.0 (get_or rest i d).tics (get_or rest i d).later at.later at.divides.1)
 
 -- fewer tics make no more sequences
 pub all_grows : (tics : List TicRanges) (n : ℕ) → AllByRecursion IsSound tics → length (all_sequences (drop n tics)) ≤ length (all_sequences tics)
@@ -150,8 +155,8 @@ pub each_length : (now : List TicRanges) (wheels : List Wheel) (count : ℕ) →
     → (k : ℕ) → k < length (all_sequences now) → length (sequence_at now k) ≡ length now
 each_length now wheels count same space are k within =
     subst (λ (rs : List TicRanges). length (sequence_at rs k) ≡ length rs) same
-        (length-sequence wheels count k are (recursion_from_All IsSound (ranges_of wheels) space.each) (omega (arith, counted now wheels count same are))
-            ∙ sym (length-map wheels (λ w. w.ranges)))
+    (length-sequence wheels count k are (recursion_from_All IsSound (ranges_of wheels) space.each) (omega (arith, counted now wheels count same are))
+    ∙ sym (length-map wheels (λ w. w.ranges)))
 
 in_wheels : (now : List TicRanges) (wheels : List Wheel) (i : ℕ) → ranges_of wheels ≡ now → i < length now → i < length wheels
 in_wheels now wheels i same within = omega (arith, ap length same, length-map wheels (λ w. w.ranges))
@@ -160,7 +165,7 @@ pub wheel_facts : (now : List TicRanges) (wheels : List Wheel) (count i : ℕ) (
     → i < length now → w ≡ get_or wheels i w → WheelAt count w
 wheel_facts now wheels count i w same space are within is =
     subst (λ (x : Wheel). WheelAt count x) (sym is)
-        (wheel_at wheels count i w are (recursion_from_All IsSound (ranges_of wheels) space.each) (in_wheels now wheels i same within))
+    (wheel_at wheels count i w are (recursion_from_All IsSound (ranges_of wheels) space.each) (in_wheels now wheels i same within))
 
 pub tic_is : (now : List TicRanges) (wheels : List Wheel) (count i k : ℕ) (w : Wheel) → ranges_of wheels ≡ now → IsSpace (ranges_of wheels) → AreWheels wheels count
     → i < length now → w ≡ get_or wheels i w → k < length (all_sequences now)
@@ -168,8 +173,8 @@ pub tic_is : (now : List TicRanges) (wheels : List Wheel) (count i k : ℕ) (w :
 tic_is now wheels count i k w same space are within is number =
     let few : k < count = omega (arith, counted now wheels count same are) in
     ap (λ (rs : List TicRanges). slice_get (sequence_at rs k) i) (sym same)
-        ∙ tic_of_wheel wheels count k i w are (recursion_from_All IsSound (ranges_of wheels) space.each) few (in_wheels now wheels i same within)
-        ∙ ap (λ (x : Wheel). slice_get (tics_of x.ranges) (k / x.later % x.tics)) (sym is)
+    ∙ tic_of_wheel wheels count k i w are (recursion_from_All IsSound (ranges_of wheels) space.each) few (in_wheels now wheels i same within)
+    ∙ ap (λ (x : Wheel). slice_get (tics_of x.ranges) (k / x.later % x.tics)) (sym is)
 
 -- too many sequences of some tics are too many of all
 pub too_many : (tics : List TicRanges) (left radix count : ℕ) (wheels : List Wheel) (r d : TicRanges) → All IsSound tics → BuiltFrom tics (left + 1) wheels count
@@ -207,8 +212,8 @@ some_fault tics i d within bounds empty = rw (slice_get-get_or tics i d within) 
 pub next_tic : (sequence so_far : List Tic) (i : ℕ) (tic : Tic) → slice_get sequence i ≡ Some tic → so_far ≡ take i sequence → so_far ++ tic ∷ [] ≡ take (i + 1) sequence
 next_tic sequence so_far i tic is taken =
     ap (λ (xs : List Tic). xs ++ tic ∷ []) taken
-        ∙ ap (λ (x : Tic). take i sequence ++ x ∷ []) (sym (get_or_from_slice_get sequence i tic tic is))
-        ∙ sym (take_more sequence i tic (slice_get_within sequence i tic is))
+    ∙ ap (λ (x : Tic). take i sequence ++ x ∷ []) (sym (get_or_from_slice_get sequence i tic tic is))
+    ∙ sym (take_more sequence i tic (slice_get_within sequence i tic is))
 
 pub next_written : (old so_far sequence : List Tic) (from n : ℕ) (tic : Tic) → slice_get sequence (from + n) ≡ Some tic → length old ≡ length sequence
     → so_far ≡ paste old from (drop from sequence) n → set so_far (from + n) tic ≡ paste old from (drop from sequence) (n + 1)
@@ -217,8 +222,8 @@ next_written old so_far sequence from n tic is long written =
     let read : get_or (drop from sequence) n tic ≡ tic = get_or-drop from sequence n tic ∙ get_or_from_slice_get sequence (from + n) tic tic is in
     let rest = length-drop from sequence in
     ap (λ (xs : List Tic). set xs (from + n) tic) written
-        ∙ ap (λ (x : Tic). set (paste old from (drop from sequence) n) (from + n) x) (sym read)
-        ∙ paste_more old from (drop from sequence) n tic (omega (arith, long)) (omega (arith, rest))
+    ∙ ap (λ (x : Tic). set (paste old from (drop from sequence) n) (from + n) x) (sym read)
+    ∙ paste_more old from (drop from sequence) n tic (omega (arith, long)) (omega (arith, rest))
 
 -- sequences share as many tics as their numbers share quotients by the place values
 quotients_kept : (a b c q t l : ℕ) → 0 < l → c ≡ q * (t * l) → a / c ≡ b / c → a / l ≡ b / l → a % c / l ≡ b % c / l
@@ -240,12 +245,12 @@ shares_front (w ∷ rest) count a b (suc n) are sound a_in b_in within same =
     let later = some_count rest w.later are.2 sound.1 in
     let high = same zero w (omega arith) in
     let behind = shares_front rest w.later (a % w.later) (b % w.later) n are.2 sound.1 (omega arith) (omega arith) (omega arith)
-        (λ j d below. let at = wheel_at rest w.later j d are.2 sound.1 (omega arith) in
-            quotients_kept a b w.later at.divides.0 (get_or rest j d).tics (get_or rest j d).later at.later at.divides.1 high (same (suc j) d (omega arith))) in
+    (λ j d below. let at = wheel_at rest w.later j d are.2 sound.1 (omega arith) in
+    quotients_kept a b w.later at.divides.0 (get_or rest j d).tics (get_or rest j d).later at.later at.divides.1 high (same (suc j) d (omega arith))) in
     ap (take (suc n)) (sequence_split w rest count a are later a_in)
-        ∙ ap (λ m. get_or (tics_of w.ranges) m none ∷ take n (sequence_at (ranges_of rest) (a % w.later))) high
-        ∙ ap (λ (xs : List Tic). get_or (tics_of w.ranges) (b / w.later) none ∷ xs) behind
-        ∙ sym (ap (take (suc n)) (sequence_split w rest count b are later b_in))
+    ∙ ap (λ m. get_or (tics_of w.ranges) m none ∷ take n (sequence_at (ranges_of rest) (a % w.later))) high
+    ∙ ap (λ (xs : List Tic). get_or (tics_of w.ranges) (b / w.later) none ∷ xs) behind
+    ∙ sym (ap (take (suc n)) (sequence_split w rest count b are later b_in))
 
 pub shares_end : (wheels : List Wheel) (count a b n : ℕ) (d : Wheel) → AreWheels wheels count → SoundWheels wheels → a < count → b < count → n < length wheels
     → ((j : ℕ) (e : Wheel) → j < n → a / (get_or wheels j e).later ≡ b / (get_or wheels j e).later)
@@ -259,7 +264,7 @@ shares_end (w ∷ rest) count a b zero d are sound a_in b_in within same other e
     let both : Some (get_or (tics_of w.ranges) (a / w.later) none) ≡ Some (get_or (tics_of w.ranges) (b / w.later) none) = sym tic_a ∙ equal ∙ tic_b in
     let tics : get_or (tics_of w.ranges) (a / w.later) none ≡ get_or (tics_of w.ranges) (b / w.later) none = cc in
     other (tics_apart w.ranges (a / w.later) (b / w.later) none sound.0
-        (rw (← are.0) (div_below a w.later w.tics later (omega (arith, are.1)))) (rw (← are.0) (div_below b w.later w.tics later (omega (arith, are.1)))) tics)
+    (rw (← are.0) (div_below a w.later w.tics later (omega (arith, are.1)))) (rw (← are.0) (div_below b w.later w.tics later (omega (arith, are.1)))) tics)
 shares_end (w ∷ rest) count a b (suc n) d are sound a_in b_in within same other equal =
     let later = some_count rest w.later are.2 sound.1 in
     let high = same zero w (omega arith) in
@@ -267,10 +272,10 @@ shares_end (w ∷ rest) count a b (suc n) d are sound a_in b_in within same othe
     let a_rest = ap (λ (xs : List Tic). slice_get xs (suc n)) (sequence_split w rest count a are later a_in) in
     let b_rest = ap (λ (xs : List Tic). slice_get xs (suc n)) (sequence_split w rest count b are later b_in) in
     shares_end rest w.later (a % w.later) (b % w.later) n d are.2 sound.1 (omega arith) (omega arith) (omega arith)
-        (λ j e below. let at = wheel_at rest w.later j e are.2 sound.1 (omega arith) in
-            quotients_kept a b w.later at.divides.0 (get_or rest j e).tics (get_or rest j e).later at.later at.divides.1 high (same (suc j) e (omega arith)))
-        (λ low. other (quotients_joined a b w.later last.divides.0 (get_or rest n d).tics (get_or rest n d).later last.later last.divides.1 high low))
-        (sym a_rest ∙ equal ∙ b_rest)
+    (λ j e below. let at = wheel_at rest w.later j e are.2 sound.1 (omega arith) in
+    quotients_kept a b w.later at.divides.0 (get_or rest j e).tics (get_or rest j e).later at.later at.divides.1 high (same (suc j) e (omega arith)))
+    (λ low. other (quotients_joined a b w.later last.divides.0 (get_or rest n d).tics (get_or rest n d).later last.later last.divides.1 high low))
+    (sym a_rest ∙ equal ∙ b_rest)
 
 pub shares : (now : List TicRanges) (wheels : List Wheel) (count a b n : ℕ) (w : Wheel) → ranges_of wheels ≡ now → IsSpace (ranges_of wheels) → AreWheels wheels count
     → a < length (all_sequences now) → b < length (all_sequences now) → n < length now

@@ -43,14 +43,18 @@ forward_holds n = cond_both (int_lt n (negsuc 126)) (negsuc 126) n (λ (m : ℤ)
 -- the tic of these numbers
 abbrev pub tic_of : ℤ → ℤ → ℤ → ℤ → Tic
 tic_of forward side turn using = record {
-    forward = int_max (negsuc 126) forward; side = side; turn = turn_byte turn; buttons = buttons_of using;
-    above_end_byte = forward_holds forward }
+  forward = int_max (negsuc 126) forward;
+  side = side;
+  turn = turn_byte turn;
+  buttons = buttons_of using;
+  above_end_byte = forward_holds forward;
+}
 
 -- the tics of these ranges: the product of forward, side, turn and use, each rising, the first of them counting most
 abbrev pub tics_of : TicRanges → List Tic
 tics_of ranges =
     flat_map (λ forward. flat_map (λ side. flat_map (λ turn. map (λ using. tic_of forward side turn using)
-        (values ranges.using)) (values ranges.turn)) (values ranges.side)) (values ranges.forward)
+    (values ranges.using)) (values ranges.turn)) (values ranges.side)) (values ranges.forward)
 
 -- how many there are
 abbrev pub tic_count : TicRanges → ℕ

@@ -8,8 +8,9 @@ mod fault;
 mod ranges;
 mod space;
 
-
 pub use fault::SpaceFault;
 pub use ranges::{Range, TicRanges};
 pub use space::{MAX_DEPTH, MAX_SEQUENCES, Space};
 
+#[cfg(test)]
+mod tests;

@@ -28,7 +28,11 @@ pub(crate) fn width(range: Range) -> u64
 {
     let low = i64::from(range.low);
     let high = i64::from(range.high);
-    if low <= high { (high - low + 1) as u64 } else { 0 }
+    if low <= high {
+        (high - low + 1) as u64
+    } else {
+        0
+    }
 }
 
 /// Whether both ends of a range are at least `low` and at most `high`.
@@ -119,7 +123,11 @@ fn turn_byte(turn: i16) -> u8
     requires high { turn ≤ℤ pos 255 }
     ensures { result ≡ turn_byte turn }
 {
-    if turn < 0 { (turn + 256) as u8 } else { turn as u8 }
+    if turn < 0 {
+        (turn + 256) as u8
+    } else {
+        turn as u8
+    }
 }
 
 /// The buttons of a tic: the use button is button 2.

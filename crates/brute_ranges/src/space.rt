@@ -5,13 +5,11 @@ ghost use Rattle.brute_ranges.specs.Tics.{tics_of, tic_count, IsSound};
 ghost use Rattle.brute_ranges.specs.Space.{all_sequences, sequence_at, IsDeep, IsSpace, IsFault, SharesExactly};
 ghost use Rattle.brute_ranges.specs.Wheels.{ranges_of, AreWheels};
 
-use std::alloc::Global;
-use std::marker::Model;
-
-use lmp_codec::{Memory, Tic};
-
 use crate::fault::SpaceFault;
 use crate::ranges::{TicRanges, has_values, is_in_bounds, tic_count, tic_numbered};
+use lmp_codec::{Memory, Tic};
+use std::alloc::Global;
+use std::marker::Model;
 
 /// How many tics a sequence has at most.
 pub const MAX_DEPTH: usize = 35;

@@ -24,4 +24,4 @@ tic_numbered-requires-clause-place c =
 pub returns : goal.returns
 returns c =
     tic_is c.args.self.now c.self.inside.wheels.items c.self.inside.count c.args.i c.args.k c.index.result.now c.self.view_is c.self.invariant.0 c.self.invariant.1 c.requires.place c.index.ensures c.requires.number
-        ∙ c.tic_numbered.ensures
+    ∙ c.tic_numbered.ensures
