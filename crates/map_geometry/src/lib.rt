@@ -4,7 +4,12 @@
 mod fault;
 mod level;
 mod records;
+mod sides;
 
 pub use fault::LevelFault;
 pub use level::{Level, LevelParts};
 pub use records::{Area, DivLine, Ground, Line, Node, Seg, Side, Slope, Spot, Subsector, Vertex};
+pub use sides::{box_side, divline_side, intercept, line_side, node_side};
+
+#[cfg(test)]
+mod tests;
