@@ -1,0 +1,3 @@
+pub mod Tics
+pub mod Space
+pub mod Wheels

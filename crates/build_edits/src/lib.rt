@@ -1,0 +1,12 @@
+//! The edits of a demo that is built tic by tic: a list of tics and a cursor in it.
+#![tactic(auto)]
+
+mod fault;
+mod list;
+mod reel;
+
+pub use fault::EditFault;
+pub use reel::Tape;
+
+#[cfg(test)]
+mod tests;

@@ -1,0 +1,4 @@
+pub mod NumberLemmas
+pub mod ScriptLemmas
+pub mod TextLemmas
+pub mod TicLemmas

@@ -1,0 +1,5 @@
+pub mod Commands
+pub mod Numbers
+pub mod Script
+pub mod Text
+pub mod Tics

@@ -1,0 +1,71 @@
+// The reading of a whole text, line by line.
+ghost use Rattle.std.specs.Prelude.{◌≡◌, ◌++◌, OnOk, IfErr, None};
+ghost use Rattle.std.specs.Option.{option_to_list};
+ghost use Rattle.build_script.specs.Script.{said_by, is_comment, entry_of, fault_of, IsFault, Gives, script_of};
+
+use crate::commands::{Command, Entry, Script};
+use crate::fault::{Kind, ScriptFault};
+use crate::judge::{command_of, name_of};
+use crate::text::{Lines, Words};
+use std::alloc::Global;
+
+/// Whether a line that begins with this word is a comment.
+fn is_comment(word: &[u8]) -> bool
+    ensures { result ≡ is_comment word.now }
+{
+    word.starts_with(b"#")
+}
+
+/// The command that a line says, if it says one.
+fn said_by(line: &[u8]) -> Result<Option<Command>, Kind>
+    ensures { result ≡ said_by line.now }
+{
+    let mut words = Words::new(line);
+    let Some(word) = words.next() else {
+        return Ok(None);
+    };
+    if is_comment(word) {
+        return Ok(None);
+    }
+    let Some(name) = name_of(word) else {
+        return Err(Kind::Word);
+    };
+    let command = command_of(name, words)?;
+    Ok(Some(command))
+}
+
+/// Adds the command that the line of this number says, if it says one.
+fn read_line(entries: &mut Vec<Entry>, number: u32, line: &[u8]) -> Result<(), ScriptFault>
+    ensures added { OnOk result (entries.new.items ≡ entries.old.items ++ option_to_list (entry_of (number, line.now))) }
+    ensures faultless { OnOk result (fault_of (number, line.now) ≡ None) }
+    ensures faulty { IfErr result (λ fault. IsFault fault (fault_of (number, line.now))) }
+{
+    match said_by(line) {
+        Ok(None) => {}
+        Ok(Some(command)) => entries.push(Entry {
+            line: number,
+            command,
+        })?,
+        Err(kind) => return Err(ScriptFault::Line(number, kind)),
+    }
+    Ok(())
+}
+
+/// The commands of a text in their order, each with the number of its line, or the first fault in the text.
+///
+/// Lines end by LF or CR LF, and words are separated by spaces and tabs. A line without words and one whose first word
+/// begins with `#` are skipped; they count as lines do, from 1. A faulty line is refused by its first faulty word, from
+/// the left. The bytes need not be UTF-8. With `worlds` the words that show and search worlds are known too; there are
+/// none yet.
+pub fn read_script(alloc: Global, bytes: &[u8], worlds: bool) -> Result<Script, ScriptFault>
+    ensures { Gives result (script_of worlds bytes.now) }
+{
+    let _ = worlds;
+    let mut entries = Vec::new(alloc);
+    let mut number = 0u32;
+    for line in Lines::new(bytes) {
+        number = number.checked_add(1).ok_or(ScriptFault::Memory)?;
+        read_line(&mut entries, number, line)?;
+    }
+    Ok(Script::from_entries(entries))
+}

@@ -1,0 +1,6 @@
+pub mod Calls
+pub mod Counts
+pub mod Devices
+pub mod FileShelf
+pub mod MemShelf
+pub mod MemSink

@@ -1,0 +1,31 @@
+//! The outside of the program: where files come from and go to, where the report goes, a gate between
+//! workers, the counter of steps, and the one answer for want of memory.
+#![tactic(auto)]
+
+mod calls;
+mod counts;
+mod file_shelf;
+mod gate;
+mod mem_shelf;
+mod mem_sink;
+mod memory;
+mod out_sink;
+mod save;
+mod shelf;
+mod sink;
+mod steps;
+mod sure_sink;
+
+pub use file_shelf::FileShelf;
+pub use gate::{Gate, NoGate};
+pub use mem_shelf::MemShelf;
+pub use mem_sink::MemSink;
+pub use memory::Memory;
+pub use out_sink::OutSink;
+pub use shelf::{PutFault, Shelf, TakeFault};
+pub use sink::{PushFault, Sink};
+pub use steps::Steps;
+pub use sure_sink::SureSink;
+
+#[cfg(test)]
+mod tests;

@@ -1,0 +1,6 @@
+pub mod TextLemmas
+pub mod TakeLemmas
+pub mod MeaningLemmas
+pub mod EndLemmas
+pub mod ReadingLemmas
+pub mod EditLemmas

@@ -1,0 +1,89 @@
+-- What the private functions promise to each other.
+use Rattle.std.specs.Prelude.{◌≡◌, ◌≢◌, ◌≤◌, ◌+◌, ℕ, List, [], Option, Some, None, Result, Ok, Err, map, take, option_map}
+use Rattle.std.specs.FinMap as map
+use Rattle.doom_edge.specs.Counts.{Rose}
+use Rattle.doom_edge.specs.Devices.{Files, but_for, grown, GrewByPrefix}
+use Rattle.doom_edge.specs.declared.shelf.TakeFault.{TakeFault}
+use Rattle.doom_edge.specs.declared.shelf.TakeFault.TheVariants as take_fault
+use Rattle.doom_edge.specs.declared.shelf.PutFault.{PutFault}
+use Rattle.doom_edge.specs.declared.shelf.PutFault.TheVariants as put_fault
+use Rattle.doom_edge.specs.declared.sink.PushFault.{PushFault}
+use Rattle.doom_edge.specs.declared.sink.PushFault.TheVariants as push_fault
+use Rattle.lmp_codec.specs.declared.fault.DemoFault.{DemoFault}
+use Rattle.lmp_codec.specs.declared.fault.DemoFault.TheVariants as demo_fault
+use Rattle.build_script.specs.declared.fault.ScriptFault.{ScriptFault}
+use Rattle.build_script.specs.declared.fault.ScriptFault.TheVariants as script_fault
+use Rattle.build_edits.specs.declared.fault.EditFault.{EditFault}
+use Rattle.build_edits.specs.declared.fault.EditFault.TheVariants as edit_fault
+use Rattle.dsda_cli.specs.Commands.{word_at}
+use Rattle.dsda_cli.specs.Refusal.{line_of}
+use Rattle.dsda_cli.specs.Ending.{with_put}
+use Rattle.dsda_cli.specs.declared.command.Input.{Input}
+use Rattle.dsda_cli.specs.declared.fault.InputFault.{InputFault}
+use Rattle.dsda_cli.specs.declared.fault.InputFault.TheVariants as input_fault
+use Rattle.dsda_cli.specs.declared.product.Stop.{Stop}
+use Rattle.dsda_cli.specs.declared.product.Stop.TheVariants as stop
+use Rattle.dsda_cli.specs.declared.status.Status.{Status}
+use Rattle.dsda_cli.specs.declared.status.Status.TheVariants as status
+
+-- what is asked for of an input: one byte more than its limit
+abbrev pub front_of : Files → List (List ℕ) → Input → Option (List ℕ)
+front_of files words input = option_map (take (input.limit + 1)) (map.get files (word_at words input.word))
+
+-- a demo's fault as an end of the work
+abbrev pub stop_of_demo : DemoFault → Stop
+stop_of_demo demo_fault.Memory = stop.Memory
+stop_of_demo fault = stop.Refused (input_fault.Demo fault)
+
+-- a script's fault as an end of the work
+abbrev pub stop_of_script : ScriptFault → Stop
+stop_of_script (script_fault.Line line kind) = stop.Refused (input_fault.Script line kind)
+stop_of_script script_fault.Memory = stop.Memory
+
+-- an edit's fault, with its line, as an end of the work
+abbrev pub stop_of_edit : ℕ → EditFault → Stop
+stop_of_edit line edit_fault.Memory = stop.Memory
+stop_of_edit line fault = stop.Refused (input_fault.Edit line fault)
+
+-- what was returned, seen by `view`, is this answer, unless there was no memory
+abbrev pub Gives : {A B : Type 0} → (A → B) → Result A Stop → Result B InputFault → Type 0
+Gives view (Ok value) answer = answer ≡ Ok (view value)
+Gives view (Err (stop.Refused fault)) answer = answer ≡ Err fault
+Gives view (Err stop.Memory) answer = Unit {0}
+
+-- a status of a take that was not made
+abbrev pub status_of_take : TakeFault → Status
+status_of_take take_fault.Failed = status.ReadFault
+status_of_take take_fault.Memory = status.Memory
+
+-- a status of a put that was not made
+abbrev pub status_of_put : PutFault → Status
+status_of_put put_fault.Failed = status.WriteFault
+status_of_put put_fault.Memory = status.Memory
+
+-- a status of a push that was not made
+abbrev pub status_of_push : PushFault → Status
+status_of_push push_fault.Failed = status.NoteFault
+status_of_push push_fault.Memory = status.Memory
+
+-- The file was put, if there is one, or why not; seen before and after are what the shelf holds and the count of its puts.
+abbrev pub Puts : Type 0 → Option (List ℕ × List ℕ) → Option Files → ℕ → Option Files → ℕ → Result (Unit {0}) PutFault → Type 0
+Puts sure put files puts after now (Ok _) = (after ≡ with_put put files) × (put ≡ None → now ≡ puts)
+Puts sure None files puts after now (Err fault) = ⊥
+Puts sure (Some put) files puts after now (Err put_fault.Failed) = (but_for put.0 after ≡ but_for put.0 files) × Rose puts now × (sure → ⊥)
+Puts sure (Some put) files puts after now (Err put_fault.Memory) = after ≡ files
+
+-- The text was pushed, if there is one, or why not; seen before and after are what the sink got and the count of its pushes.
+abbrev pub Pushes : Type 0 → List ℕ → Option (List ℕ) → ℕ → Option (List ℕ) → ℕ → Result (Unit {0}) PushFault → Type 0
+Pushes sure told text pushes after now (Ok _) = (after ≡ grown told text) × (told ≡ [] → now ≡ pushes)
+Pushes sure told text pushes after now (Err push_fault.Failed) = GrewByPrefix told text after × Rose pushes now × (sure → ⊥) × (told ≢ [])
+Pushes sure told text pushes after now (Err push_fault.Memory) = after ≡ text
+
+-- The line of a refusal was pushed, or why not.
+abbrev pub TellsRefusal : Type 0 → InputFault → Option (List ℕ) → ℕ → Option (List ℕ) → ℕ → Status → Type 0
+TellsRefusal sure fault text pushes after now (status.Refused refused) =
+    (refused ≡ fault) × (after ≡ grown (line_of fault) text)
+TellsRefusal sure fault text pushes after now status.NoteFault =
+    GrewByPrefix (line_of fault) text after × Rose pushes now × (sure → ⊥)
+TellsRefusal sure fault text pushes after now status.Memory = after ≡ text
+TellsRefusal sure fault text pushes after now other = ⊥

@@ -1,0 +1,13 @@
+pub use Rattle.doom_edge.specs.Counts
+pub use Rattle.doom_edge.specs.Devices
+pub use Rattle.doom_edge.specs.MemShelf
+pub use Rattle.lmp_codec.specs.Demo
+pub use Rattle.build_script.specs.Script
+pub use Rattle.build_edits.specs.Parts
+pub use Rattle.build_edits.specs.Edits
+pub mod Refusal
+pub mod Commands
+pub mod Reading
+pub mod Meaning
+pub mod Ending
+pub mod Inside

@@ -1,0 +1,140 @@
+-- What a command line means: a function of its words and of the files that they name. It knows nothing of the order in
+-- which files are taken, put and pushed.
+use Rattle.std.specs.Prelude.{ℕ, false, map, fold, Result, Ok, Err, Option, Some, None, List, [], ◌∷◌, length, nat_lt, option_map, find, slice_get, unwrap_or}
+use Rattle.std.specs.List.{zip}
+use Rattle.std.specs.FinMap as map
+use Rattle.doom_edge.specs.Devices.{Files}
+use Rattle.lmp_codec.specs.Demo.{written}
+use Rattle.lmp_codec.specs.declared.input.Tic.{Tic}
+use Rattle.lmp_codec.specs.declared.whole.Demo.{Demo}
+use Rattle.lmp_codec.specs.declared.fault.DemoFault.{DemoFault}
+use Rattle.build_script.specs.Script.{script_of}
+use Rattle.build_script.specs.declared.fault.Kind.{Kind}
+use Rattle.build_script.specs.declared.commands.Entry.{Entry}
+use Rattle.build_script.specs.declared.commands.Command.{Command as Edit}
+use Rattle.build_script.specs.declared.commands.Command.TheVariants as script
+use Rattle.build_edits.specs.Parts.{Parts, all_tics}
+use Rattle.build_edits.specs.Edits.{seek_outcome, put_outcome, insert_outcome, delete_outcome, cut_outcome, repeat_outcome}
+use Rattle.build_edits.specs.declared.fault.EditFault.{EditFault}
+use Rattle.dsda_cli.specs.Commands.{word_at, command_of, inputs_of, out_of}
+use Rattle.dsda_cli.specs.Reading.{demo_of}
+use Rattle.dsda_cli.specs.declared.command.Command.{Command}
+use Rattle.dsda_cli.specs.declared.command.Command.TheVariants as command
+use Rattle.dsda_cli.specs.declared.command.Input.{Input}
+use Rattle.dsda_cli.specs.declared.fault.InputFault.{InputFault}
+use Rattle.dsda_cli.specs.declared.fault.InputFault.TheVariants as input_fault
+
+-- What a command that is carried out gives: its report, and the demo that it puts, if it puts one.
+pub record Work : Type 0 where
+  pub report : List ℕ
+  pub demo : Option (List ℕ)
+
+infixl 10 ◌>>=◌
+-- the second step goes on from what the first one gives; the first fault ends them
+abbrev pub ◌>>=◌ : {A B : Type 0} → Result A InputFault → (A → Result B InputFault) → Result B InputFault
+(Ok value) >>= next = next value
+(Err fault) >>= next = Err fault
+
+-- a text as a demo; its fault is the input's
+abbrev pub as_demo : Result Demo DemoFault → Result Demo InputFault
+as_demo (Ok demo) = Ok demo
+as_demo (Err fault) = Err (input_fault.Demo fault)
+
+-- a script; its first fault is the input's
+abbrev pub as_script : Result (List Entry) (ℕ × Kind) → Result (List Entry) InputFault
+as_script (Ok entries) = Ok entries
+as_script (Err fault) = Err (input_fault.Script fault.0 fault.1)
+
+-- what a command makes of the tics before the cursor and of those from it on
+abbrev pub edited_by : Edit → Parts → Result Parts EditFault
+edited_by (script.Seek place) parts = seek_outcome place parts
+edited_by (script.Put tic) parts = put_outcome tic parts
+edited_by (script.Insert tic) parts = insert_outcome tic parts
+edited_by script.Delete parts = delete_outcome parts
+edited_by script.Cut parts = cut_outcome parts
+edited_by (script.Repeat count) parts = repeat_outcome count parts
+
+-- what a command of a line comes to; its fault is the line's
+abbrev pub at_line : ℕ → Result Parts EditFault → Result Parts InputFault
+at_line line (Ok parts) = Ok parts
+at_line line (Err fault) = Err (input_fault.Edit line fault)
+
+-- one command more; none is carried out after the first that is refused
+abbrev pub next_edit : Result Parts InputFault → Entry → Result Parts InputFault
+next_edit so_far entry = so_far >>= λ parts. at_line entry.line (edited_by entry.command parts)
+
+-- what the commands make of a tape, one after the other
+abbrev pub edits_of : List Entry → Parts → Result Parts InputFault
+edits_of entries parts = fold next_edit (Ok parts) entries
+
+-- the tics that a script leaves of a demo's
+unfoldable pub scripted : List ℕ → List Tic → Result (List Tic) InputFault
+scripted script tics = do
+  entries ← as_script (script_of false script)
+  parts ← edits_of entries (record { before = []; after = tics })
+  Ok (all_tics parts)
+
+-- `edit`: the demo with the tics that the script leaves, and nothing to report
+unfoldable pub edited : List ℕ → List ℕ → Result Work InputFault
+edited demo script = do
+  before ← as_demo (demo_of demo)
+  tics ← scripted script before.tics
+  Ok (record { report = []; demo = Some (written before.header tics) })
+
+-- the text of the input at a place
+abbrev pub text_at : List (List ℕ) → ℕ → List ℕ
+text_at texts place = unwrap_or (slice_get texts place) []
+
+-- what each command makes of the texts of its inputs
+abbrev pub worked : Command → List (List ℕ) → Result Work InputFault
+worked command.Edit texts = edited (text_at texts 0) (text_at texts 1)
+
+-- the first input whose text is above its limit
+abbrev pub too_large : List Input → List (List ℕ) → Option (Input × List ℕ)
+too_large inputs texts = find (λ pair. nat_lt pair.0.limit (length pair.1)) (zip inputs texts)
+
+abbrev pub worked_unless : Command → List (List ℕ) → Option (Input × List ℕ) → Result Work InputFault
+worked_unless command texts (Some pair) = Err (input_fault.Large pair.0.word)
+worked_unless command texts None = worked command texts
+
+-- the first text above its limit is refused before any text is read
+abbrev pub answer_of : Command → List (List ℕ) → Result Work InputFault
+answer_of command texts = worked_unless command texts (too_large (inputs_of command) texts)
+
+-- the values, where each is there
+abbrev pub all_of : {A : Type 0} → List (Option A) → Option (List A)
+all_of [] = Some []
+all_of (None ∷ options) = None
+all_of (Some value ∷ options) = option_map (λ values. value ∷ values) (all_of options)
+
+-- the texts of the inputs, where each is held
+abbrev pub contents : Files → List (List ℕ) → List Input → Option (List (List ℕ))
+contents files words inputs = all_of (map (λ input. map.get files (word_at words input.word)) inputs)
+
+-- what a command line comes to
+pub data Outcome : Type 0 where
+  -- the words are no command line
+  Misused : Outcome
+  -- an input isn't held
+  Unheld : Outcome
+  -- the first fault of the inputs
+  Refusal : InputFault → Outcome
+  -- the report, and the name and the bytes of the file that is put, if one is
+  Reported : List ℕ → Option (List ℕ × List ℕ) → Outcome
+
+-- the work, with its demo under this name, or the refusal
+abbrev pub outcome_under : List ℕ → Result Work InputFault → Outcome
+outcome_under name (Err fault) = Refusal fault
+outcome_under name (Ok work) = Reported work.report (option_map (λ bytes. (name, bytes)) work.demo)
+
+abbrev pub outcome_from : List (List ℕ) → Command → Option (List (List ℕ)) → Outcome
+outcome_from words command None = Unheld
+outcome_from words command (Some texts) = outcome_under (word_at words (out_of command)) (answer_of command texts)
+
+abbrev pub outcome_for : List (List ℕ) → Files → Option Command → Outcome
+outcome_for words files None = Misused
+outcome_for words files (Some command) = outcome_from words command (contents files words (inputs_of command))
+
+-- what the words come to over these files
+abbrev pub outcome_of : List (List ℕ) → Files → Outcome
+outcome_of words files = outcome_for words files (command_of words)

@@ -1,0 +1,61 @@
+// The commands of a script, carried out on the tics of a demo.
+ghost use Rattle.std.specs.Prelude.{◌≡◌, ◌≤◌, length};
+ghost use Rattle.lmp_codec.specs.Demo.{most_tics};
+ghost use Rattle.build_edits.specs.Parts.{all_tics};
+ghost use Rattle.build_edits.specs.Edits.{MayEdit};
+ghost use Rattle.dsda_cli.specs.Meaning.{scripted, edits_of, edited_by};
+ghost use Rattle.dsda_cli.specs.Inside.{Gives, stop_of_edit};
+
+use crate::fault::{InputFault, Refused};
+use crate::product::Stop;
+use build_edits::{EditFault, Tape};
+use build_script::{Command, Script, read_script};
+use lmp_codec::Tics;
+use std::alloc::Global;
+
+/// The tics that the script leaves of a demo's.
+#[tactic(auto, unfolding(crate::specs::Meaning::scripted))]
+pub fn scripted(alloc: Global, script: &[u8], tics: Tics) -> Result<Tape, Stop>
+    requires { length tics ≤ most_tics }
+    ensures { Gives all_tics result (scripted script.now tics) }
+{
+    let script = read_script(alloc, script, false)?;
+    edit_all(&script, Tape::new(tics.into_list()))
+}
+
+/// Carries the commands out, one after the other. The first that is refused ends them.
+fn edit_all(script: &Script, mut tape: Tape) -> Result<Tape, Stop>
+    ensures { Gives (λ parts. parts) result (edits_of script.now tape) }
+{
+    for place in 0..script.len() {
+        match edit(script.command(place), &mut tape) {
+            Ok(()) => {}
+            Err(fault) => return Err(stop_of_edit(script.line(place), fault)),
+        }
+    }
+    Ok(tape)
+}
+
+/// Carries one command out.
+fn edit(command: &Command, tape: &mut Tape) -> Result<(), EditFault>
+    ensures { MayEdit result tape.old tape.new (edited_by command.now tape.old) }
+{
+    match command {
+        Command::Seek(place) => tape.seek(*place),
+        Command::Put(tic) => tape.put(*tic),
+        Command::Insert(tic) => tape.insert(*tic),
+        Command::Delete => tape.delete(),
+        Command::Cut => tape.cut(),
+        Command::Repeat(count) => tape.repeat(*count),
+    }
+}
+
+/// The end of the work where the command of a line is refused.
+fn stop_of_edit(line: u32, fault: EditFault) -> Stop
+    ensures { result ≡ stop_of_edit line fault }
+{
+    match fault {
+        EditFault::Memory => Stop::Memory,
+        refused => Stop::Refused(InputFault::Edit(line, Refused::new(refused))),
+    }
+}

@@ -1,0 +1,71 @@
+ghost use Rattle.std.specs.Prelude.{◌≡◌};
+
+use build_edits::EditFault;
+use build_script::Kind;
+use lmp_codec::DemoFault;
+use std::marker::Model;
+use thiserror::Error;
+
+/// An answer of a reader that may also be want of memory.
+pub trait MayLackMemory {
+    ghost is_memory: { Self → Type 0 };
+}
+
+impl MayLackMemory for DemoFault {
+    ghost use Rattle.std.specs.Prelude.{◌≡◌};
+    ghost use Rattle.lmp_codec.specs.declared.DemoFault.TheVariants as variants;
+
+    ghost is_memory = { λ fault. fault ≡ variants.Memory };
+}
+
+impl MayLackMemory for EditFault {
+    ghost use Rattle.std.specs.Prelude.{◌≡◌};
+    ghost use Rattle.build_edits.specs.declared.fault.EditFault.TheVariants as variants;
+
+    ghost is_memory = { λ fault. fault ≡ variants.Memory };
+}
+
+/// A fault of the input: never want of memory.
+#[derive(Debug, Drop)]
+pub struct Refused<F: MayLackMemory> {
+    fault: F,
+}
+
+impl<F: MayLackMemory> Model for Refused<F> {
+    ghost Value = { F };
+
+    ghost view = { λ refused. refused.fault };
+
+    ghost invariant = { λ refused. ¬ F.is_memory refused.fault };
+}
+
+impl<F: MayLackMemory> Refused<F> {
+    /// Keeps a fault that is not want of memory.
+    pub fn new(fault: F) -> Refused<F>
+        requires { ¬ F.is_memory fault }
+        ensures { result ≡ fault }
+    {
+        Refused { fault }
+    }
+
+    /// The fault.
+    pub fn fault(&self) -> &F
+        ensures fault { result.now ≡ self.now }
+        ensures no_memory { ¬ F.is_memory self.now }
+    {
+        &self.fault
+    }
+}
+
+/// Why the input is refused.
+#[derive(Debug, Drop, Error)]
+pub enum InputFault {
+    #[error("a file is too large")]
+    Large(u32),
+    #[error("the demo is faulty")]
+    Demo(Refused<DemoFault>),
+    #[error("the script is faulty")]
+    Script(u32, Kind),
+    #[error("an edit is refused")]
+    Edit(u32, Refused<EditFault>),
+}

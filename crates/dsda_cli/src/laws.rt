@@ -1,0 +1,35 @@
+//! What follows from the definitions and the contracts, for a reader: each law is a function whose clause is the law.
+ghost use Rattle.std.specs.Prelude.{◌≡◌, ℕ, List, Result, Some};
+ghost use Rattle.doom_edge.specs.MemShelf.{files_of};
+ghost use Rattle.lmp_codec.specs.Demo.{IsVerdict};
+ghost use Rattle.lmp_codec.specs.declared.whole.Demo.{Demo};
+ghost use Rattle.lmp_codec.specs.declared.fault.DemoFault.{DemoFault};
+ghost use Rattle.dsda_cli.specs.Reading.{demo_of};
+ghost use Rattle.dsda_cli.specs.Ending.{Answers};
+
+use crate::program::run;
+use crate::status::Status;
+use crate::words::Words;
+use doom_edge::{Gate, MemShelf, Steps, SureSink};
+use std::alloc::Global;
+
+/// What the meaning of a command reads a demo's text as is the verdict on the text.
+pub fn one_reading()
+    ensures { (text : List ℕ) (verdict : Result Demo DemoFault) → IsVerdict text verdict → demo_of text ≡ verdict }
+{}
+
+/// Over a new shelf in memory, no call of which is to fail, and a sink that never fails, a run ends as the words and the
+/// files come to, or for want of memory.
+pub fn run_in_memory<G: Gate + Sync>(
+    alloc: Global,
+    words: &Words,
+    files: Vec<(String, Vec<u8>)>,
+    gate: &G,
+    steps: &mut Steps,
+) -> Status
+    ensures { Answers words.now (Some (files_of files.items)) result }
+{
+    let mut shelf = MemShelf::new(files, Vec::new(alloc), Vec::new(alloc));
+    let mut note = SureSink::new(alloc);
+    run(alloc, words, &mut shelf, &mut note, gate, steps)
+}

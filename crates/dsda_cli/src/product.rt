@@ -1,0 +1,83 @@
+// What a command gives, and why it stops before that.
+ghost use Rattle.std.specs.Prelude.{◌≡◌};
+
+use crate::fault::{InputFault, Refused};
+use build_script::ScriptFault;
+use doom_edge::Memory;
+use lmp_codec::DemoFault;
+use std::marker::Model;
+
+/// What a command that is carried out gives: its report, and the demo that it puts, if it puts one.
+#[derive(Debug, Drop)]
+pub struct Product {
+    pub report: Vec<u8>,
+    pub demo: Option<Vec<u8>>,
+}
+
+impl Model for Product {
+    ghost use Rattle.std.specs.Prelude.{option_map};
+    ghost use Rattle.dsda_cli.specs.Meaning.{Work};
+
+    ghost Value = { Work };
+
+    ghost view = { λ product. record { report = product.report.items; demo = option_map (λ bytes. bytes.items) product.demo } };
+}
+
+/// Why a command gives nothing.
+#[derive(Debug, Drop)]
+pub enum Stop {
+    /// The inputs have this fault.
+    Refused(InputFault),
+    /// There was no memory.
+    Memory,
+}
+
+impl From<DemoFault> for Stop {
+    ghost use Rattle.std.specs.Prelude.{◌≡◌};
+    ghost use Rattle.dsda_cli.specs.Inside.{stop_of_demo};
+
+    ghost from_gives = { λ fault stop. stop ≡ stop_of_demo fault };
+
+    fn from(fault: DemoFault) -> Self {
+        match fault {
+            DemoFault::Memory => Stop::Memory,
+            refused => Stop::Refused(InputFault::Demo(Refused::new(refused))),
+        }
+    }
+}
+
+impl From<ScriptFault> for Stop {
+    ghost use Rattle.std.specs.Prelude.{◌≡◌};
+    ghost use Rattle.dsda_cli.specs.Inside.{stop_of_script};
+
+    ghost from_gives = { λ fault stop. stop ≡ stop_of_script fault };
+
+    fn from(fault: ScriptFault) -> Self {
+        match fault {
+            ScriptFault::Line(line, kind) => Stop::Refused(InputFault::Script(line, kind)),
+            ScriptFault::Memory => Stop::Memory,
+        }
+    }
+}
+
+impl From<Memory> for Stop {
+    ghost use Rattle.std.specs.Prelude.{◌≡◌};
+    ghost use Rattle.dsda_cli.specs.declared.product.Stop.TheVariants.{Memory as StopMemory};
+
+    ghost from_gives = { λ _ stop. stop ≡ StopMemory };
+
+    fn from(_: Memory) -> Self {
+        Stop::Memory
+    }
+}
+
+impl From<lmp_codec::Memory> for Stop {
+    ghost use Rattle.std.specs.Prelude.{◌≡◌};
+    ghost use Rattle.dsda_cli.specs.declared.product.Stop.TheVariants.{Memory as StopMemory};
+
+    ghost from_gives = { λ _ stop. stop ≡ StopMemory };
+
+    fn from(_: lmp_codec::Memory) -> Self {
+        Stop::Memory
+    }
+}

@@ -1,0 +1,135 @@
+// The top call: a command line, carried out over a shelf and a sink.
+ghost use Rattle.std.specs.Prelude.{◌≡◌, ◌≤◌, ◌↔◌, Some, None, option_map, IfOk, IfSome, Result};
+ghost use Rattle.dsda_cli.specs.Refusal.{line_of};
+ghost use Rattle.dsda_cli.specs.Commands.{command_of, word_at, out_of};
+ghost use Rattle.dsda_cli.specs.Meaning.{Work, Reported, outcome_under};
+ghost use Rattle.dsda_cli.specs.Ending.{seen, EndsAs, Ends, IsLater, IsQuiet, Answers};
+ghost use Rattle.dsda_cli.specs.Inside.{Gives, TellsRefusal};
+ghost use Rattle.dsda_cli.specs.declared.fault.InputFault.{InputFault};
+
+use crate::command::{Command, command_of, inputs_of, out_of};
+use crate::deliver::{push_text, put_demo, status_of_push, status_of_put, status_of_take};
+use crate::fault::InputFault;
+use crate::product::{Product, Stop};
+use crate::status::Status;
+use crate::take::take_all;
+use crate::text::refusal_line;
+use crate::words::Words;
+use crate::work::judge;
+use doom_edge::{Gate, Shelf, Sink, Steps};
+use std::alloc::Global;
+
+/// Carries out the command that the words ask for: takes its inputs in the order of the words, puts the demo that they
+/// come to, and pushes the report, or the line of a refusal in its place.
+#[tactic(auto, using(crate::proofs::EndLemmas::ends_answers))]
+pub fn run<S: Shelf, N: Sink, G: Gate + Sync>(
+    alloc: Global,
+    words: &Words,
+    shelf: &mut S,
+    note: &mut N,
+    _gate: &G,
+    steps: &mut Steps,
+) -> Status
+    // The words are no command line, and then nothing is touched.
+    ensures usage { (result ≡ Status.Usage) ↔ (command_of words.now ≡ None) }
+    ensures unused_shelf { result ≡ Status.Usage → shelf.new ≡ shelf.old }
+    ensures unused_note { result ≡ Status.Usage → note.new ≡ note.old }
+
+    // Each status comes by its cause, and what stands after it.
+    ensures ends { Ends (S.sure shelf.old × N.sure note.old) words.now
+        (seen S.Shelf N.Sink shelf.old note.old) (seen S.Shelf N.Sink shelf.new note.new) result }
+
+    // Where no count of faults rises, the status is the one that the words and the files come to, or there was no memory.
+    ensures complete { IsQuiet (seen S.Shelf N.Sink shelf.old note.old) (seen S.Shelf N.Sink shelf.new note.new)
+        → Answers words.now (S.holds shelf.old) result }
+
+    // So it is where no device fails but for a name that isn't held.
+    ensures certain { S.sure shelf.old → N.sure note.old → Answers words.now (S.holds shelf.old) result }
+
+    // No step is counted.
+    ensures steps { steps.new ≡ steps.old }
+{
+    match command_of(words) {
+        Some(command) => carry_out(alloc, command, words, shelf, note),
+        None => Status::Usage,
+    }
+}
+
+/// Takes the inputs of the command, judges them, and puts and pushes what they come to.
+fn carry_out<S: Shelf, N: Sink>(
+    alloc: Global,
+    command: Command,
+    words: &Words,
+    shelf: &mut S,
+    note: &mut N,
+) -> Status
+    requires { command_of words.now ≡ Some command }
+    ensures ends { Ends (S.sure shelf.old × N.sure note.old) words.now
+        (seen S.Shelf N.Sink shelf.old note.old) (seen S.Shelf N.Sink shelf.new note.new) result }
+    ensures used { result ≡ Status.Usage → ⊥ }
+{
+    let taken = take_all(alloc, inputs_of(command), words, shelf);
+    match taken {
+        Ok(texts) => conclude(
+            alloc,
+            judge(alloc, command, &texts),
+            words.word(out_of(command)),
+            shelf,
+            note,
+        ),
+        Err(fault) => status_of_take(fault),
+    }
+}
+
+/// Puts the demo under the name, and pushes the report; or pushes the line of the refusal.
+fn conclude<S: Shelf, N: Sink>(
+    alloc: Global,
+    judged: Result<Product, Stop>,
+    name: &str,
+    shelf: &mut S,
+    note: &mut N,
+) -> Status
+    ensures ends { (answer : Result Work InputFault) → Gives (λ work. work) judged answer
+        → EndsAs (S.sure shelf.old × N.sure note.old) (outcome_under name.now answer)
+        (seen S.Shelf N.Sink shelf.old note.old) (seen S.Shelf N.Sink shelf.new note.new) result }
+    ensures later { IsLater (seen S.Shelf N.Sink shelf.old note.old) (seen S.Shelf N.Sink shelf.new note.new) }
+    ensures used { result ≡ Status.Usage → ⊥ }
+{
+    match judged {
+        Ok(product) => deliver(&product, name, shelf, note),
+        Err(stop) => match stop {
+            Stop::Refused(fault) => refuse(alloc, fault, note),
+            Stop::Memory => Status::Memory,
+        },
+    }
+}
+
+/// Puts the demo under the name, if there is one, and then pushes the report.
+fn deliver<S: Shelf, N: Sink>(product: &Product, name: &str, shelf: &mut S, note: &mut N) -> Status
+    ensures ends { EndsAs (S.sure shelf.old × N.sure note.old)
+        (Reported product.now.report (option_map (λ bytes. (name.now, bytes)) product.now.demo))
+        (seen S.Shelf N.Sink shelf.old note.old) (seen S.Shelf N.Sink shelf.new note.new) result }
+    ensures later { IsLater (seen S.Shelf N.Sink shelf.old note.old) (seen S.Shelf N.Sink shelf.new note.new) }
+{
+    if let Err(fault) = put_demo(shelf, name, &product.demo) {
+        return status_of_put(fault);
+    }
+    match push_text(note, &product.report) {
+        Ok(()) => Status::Done,
+        Err(fault) => status_of_push(fault),
+    }
+}
+
+/// Pushes the line of the refusal.
+fn refuse<N: Sink>(alloc: Global, fault: InputFault, note: &mut N) -> Status
+    ensures tells { TellsRefusal (N.sure note.old) fault (N.got note.old) (N.faults note.old) (N.got note.new) (N.faults note.new) result }
+    ensures later { N.faults note.old ≤ N.faults note.new }
+{
+    let Ok(line) = refusal_line(alloc, &fault) else {
+        return Status::Memory;
+    };
+    match push_text(note, &line) {
+        Ok(()) => Status::Refused(fault),
+        Err(fault) => status_of_push(fault),
+    }
+}

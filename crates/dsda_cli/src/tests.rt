@@ -1,0 +1,382 @@
+use crate::{Status, Words, run};
+use doom_edge::{MemShelf, MemSink, NoGate, Steps};
+use std::alloc::{AllocError, Global};
+use std::process::Abort;
+use std::test::Fail;
+
+/// Version 109, skill 2, episode 1, map 1, no monsters, the first player alone.
+const HEADER: [u8; 13] = [109, 2, 1, 1, 0, 0, 0, 1, 0, 1, 0, 0, 0];
+
+/// The words of an edit.
+const EDIT: [&str; 4] = ["edit", "in.lmp", "script", "out.lmp"];
+
+/// The numbers of the calls that fail.
+#[derive(Clone, Copy)]
+struct Failing {
+    takes: &'static [u64],
+    puts: &'static [u64],
+    pushes: &'static [u64],
+}
+
+const NONE: Failing = Failing {
+    takes: &[],
+    puts: &[],
+    pushes: &[],
+};
+
+const ALL: Failing = Failing {
+    takes: &[0],
+    puts: &[0],
+    pushes: &[0],
+};
+
+/// A demo without tics.
+const EMPTY: &[u8] = b"\x6d\x02\x01\x01\x00\x00\x00\x01\x00\x01\x00\x00\x00\x80";
+
+/// What a run left.
+#[derive(Drop)]
+struct Left {
+    status: Status,
+    shelf: MemShelf,
+    note: MemSink,
+}
+
+/// The header and these bytes behind it.
+fn with_header(alloc: Global, behind: &[u8]) -> Result<Vec<u8>, AllocError> {
+    let mut bytes = HEADER.to_vec(alloc)?;
+    bytes.extend_from_slice(behind)?;
+    Ok(bytes)
+}
+
+/// Runs the words over a demo and a script in memory.
+fn ran(
+    alloc: Global,
+    words: &[&str],
+    demo: &[u8],
+    script: &[u8],
+    failing: Failing,
+) -> Result<Left, Fail> {
+    let mut list = Words::new(alloc);
+    for word in words {
+        list.push(word)?;
+    }
+    let mut files = Vec::new(alloc);
+    files.push((String::from_str(alloc, "in.lmp")?, demo.to_vec(alloc)?))?;
+    files.push((String::from_str(alloc, "script")?, script.to_vec(alloc)?))?;
+    let mut shelf = MemShelf::new(
+        files,
+        failing.takes.to_vec(alloc)?,
+        failing.puts.to_vec(alloc)?,
+    );
+    let mut note = MemSink::new(alloc, failing.pushes.to_vec(alloc)?);
+    let mut steps = Steps::new();
+    let status = run(alloc, &list, &mut shelf, &mut note, &NoGate, &mut steps);
+    Ok(Left {
+        status,
+        shelf,
+        note,
+    })
+}
+
+/// A table of scripts: what stands behind the demo's header, the script, and what stands behind the new demo's header.
+type Edits<'a> = &'a [(&'a [u8], &'a [u8], &'a [u8])];
+
+/// Asserts that each script leaves these tics of these, and that there is nothing to report.
+fn expect_edits(rt: &impl Abort, alloc: Global, rows: Edits<'_>) -> Result<(), Fail> {
+    for (behind, script, left_behind) in rows {
+        let demo = with_header(alloc, behind)?;
+        let out = with_header(alloc, left_behind)?;
+        let left = ran(alloc, &EDIT, &demo, script, NONE)?;
+        assert_eq!(rt; left.status.number(), 0, "{script:?}");
+        assert_eq!(rt; left.note.bytes(), b"".as_slice(), "{script:?}");
+        assert!(rt;
+            left.shelf.file("out.lmp") == Some(out.as_slice()),
+            "{script:?}"
+        );
+    }
+    Ok(())
+}
+
+/// Asserts that each demo with its script is refused with this line, and that nothing is put.
+fn expect_refusals(
+    rt: &impl Abort,
+    alloc: Global,
+    rows: &[(&[u8], &[u8], &[u8])],
+) -> Result<(), Fail> {
+    for (demo, script, line) in rows {
+        let left = ran(alloc, &EDIT, demo, script, NONE)?;
+        assert_eq!(rt; left.status.number(), 1, "{line:?}");
+        assert_eq!(rt; left.note.bytes(), *line);
+        assert!(rt; left.shelf.file("out.lmp").is_none(), "{line:?}");
+    }
+    Ok(())
+}
+
+/// What an edit of a demo without tics comes to: which calls fail, the script, the status, whether the demo is put, and
+/// the text that is pushed.
+type Faults<'a> = &'a [(Failing, &'a [u8], u8, bool, &'a [u8])];
+
+fn expect_faults(rt: &impl Abort, alloc: Global, rows: Faults<'_>) -> Result<(), Fail> {
+    for (failing, script, status, put, text) in rows {
+        let left = ran(alloc, &EDIT, EMPTY, script, *failing)?;
+        assert_eq!(rt; left.status.number(), *status, "{script:?}");
+        assert_eq!(rt; left.shelf.file("out.lmp").is_some(), *put, "{script:?}");
+        assert_eq!(rt; left.note.bytes(), *text);
+    }
+    Ok(())
+}
+
+/// Asserts that these words, with devices that always fail, are no command line.
+fn expect_usage(rt: &impl Abort, alloc: Global, rows: &[&[&str]]) -> Result<(), Fail> {
+    for words in rows {
+        let left = ran(alloc, words, b"", b"", ALL)?;
+        assert_eq!(rt; left.status.number(), 2, "{words:?}");
+        assert_eq!(rt; left.note.bytes(), b"".as_slice());
+        assert!(rt; left.shelf.file("out.lmp").is_none());
+    }
+    Ok(())
+}
+
+#[test]
+fn a_demo_is_put_as_its_script_leaves_it(rt: HostRuntime) -> Result<(), Fail> {
+    expect_edits(
+        &rt,
+        rt.alloc(),
+        &[
+            (b"\x80", b"", b"\x80"),
+            (b"\x80", b"# nothing\n\n \t\r\n", b"\x80"),
+            (
+                b"\x32\x00\x00\x00\x80\nPWADER",
+                b"",
+                b"\x32\x00\x00\x00\x80",
+            ),
+            (
+                b"\x80",
+                b"put 1 2 3 4\nput 5 6 7 8\nseek 1\ncut",
+                b"\x01\x02\x03\x04\x80",
+            ),
+            (
+                b"\x80",
+                b"put 1 0 0 0\nrepeat 2\nseek 1\ninsert 2 -1 3 2\ndelete\n",
+                b"\x01\x00\x00\x00\x02\xff\x03\x02\x01\x00\x00\x00\x80",
+            ),
+            (
+                b"\x80",
+                b"put\t-0 0  0 0\r\n\tput 0 0 -1 255\r\n",
+                b"\x00\x00\x00\x00\x00\x00\xff\xff\x80",
+            ),
+            (
+                b"\x07\x07\x07\x07\x80",
+                b"put -127 -128 -128 0",
+                b"\x81\x80\x80\x00\x80",
+            ),
+            (
+                b"\x07\x07\x07\x07\x80",
+                b"seek 1\nput 127 127 255 0",
+                b"\x07\x07\x07\x07\x7f\x7f\xff\x00\x80",
+            ),
+        ],
+    )
+}
+
+#[test]
+fn a_faulty_demo_is_refused(rt: HostRuntime) -> Result<(), Fail> {
+    expect_refusals(
+        &rt,
+        rt.alloc(),
+        &[
+            (b"", b"jump", b"refused: demo cut at 0\n"),
+            (
+                b"\x6d\x02\x01\x01\x00\x00\x00\x01\x00\x01\x00\x00\x00\x32\x00",
+                b"",
+                b"refused: demo cut at 15\n",
+            ),
+            (b"\x6e", b"", b"refused: demo version 110\n"),
+            (b"\x6d\x05", b"", b"refused: demo head 1\n"),
+            (
+                b"\x6d\x02\x01\x01\x00\x00\x00\x01\x00\x01\x01",
+                b"",
+                b"refused: demo head 10\n",
+            ),
+        ],
+    )
+}
+
+#[test]
+fn a_faulty_line_is_refused(rt: HostRuntime) -> Result<(), Fail> {
+    expect_refusals(
+        &rt,
+        rt.alloc(),
+        &[
+            (EMPTY, b"jump 3", b"refused: line 1: word\n"),
+            (EMPTY, b"# no\n\nshow", b"refused: line 3: word\n"),
+            (EMPTY, b"put x 0 0 0", b"refused: line 1: number\n"),
+            (EMPTY, b"put 200 0 0 0", b"refused: line 1: range\n"),
+            (EMPTY, b"put 1", b"refused: line 1: missing\n"),
+            (EMPTY, b"put 1 0 0 0 0", b"refused: line 1: word\n"),
+            (EMPTY, b"seek 1000001", b"refused: line 1: range\n"),
+            (
+                EMPTY,
+                b"seek 1234567890123456789",
+                b"refused: line 1: number\n",
+            ),
+            (EMPTY, b"seek 1\njump", b"refused: line 2: word\n"),
+        ],
+    )
+}
+
+#[test]
+fn a_refused_edit_is_named_with_its_line(rt: HostRuntime) -> Result<(), Fail> {
+    expect_refusals(
+        &rt,
+        rt.alloc(),
+        &[
+            (EMPTY, b"seek 1", b"refused: line 1: place 0\n"),
+            (EMPTY, b"delete", b"refused: line 1: place 0\n"),
+            (
+                EMPTY,
+                b"put 1 0 0 0\n\nseek 2",
+                b"refused: line 3: place 1\n",
+            ),
+            (EMPTY, b"repeat 1", b"refused: line 1: before\n"),
+            (
+                EMPTY,
+                b"put 1 0 0 0\nrepeat 1000000",
+                b"refused: line 2: long\n",
+            ),
+            (
+                EMPTY,
+                b"put 1 0 0 0\nrepeat 999999\nput 1 0 0 0",
+                b"refused: line 3: long\n",
+            ),
+            (
+                EMPTY,
+                b"put 1 0 0 0\nrepeat 999999\nseek 3\ninsert 1 0 0 0\nseek 9",
+                b"refused: line 4: long\n",
+            ),
+        ],
+    )
+}
+
+#[test]
+fn a_file_above_its_limit_is_refused(rt: HostRuntime) -> Result<(), Fail> {
+    let alloc = rt.alloc();
+    let mut script = vec![in alloc; b'\n'; 1_048_576]?;
+    let left = ran(alloc, &EDIT, EMPTY, &script, NONE)?;
+    assert_eq!(rt; left.status.number(), 0);
+    script.push(b'\n')?;
+    let demo = vec![in alloc; 0u8; 16_777_217]?;
+    expect_refusals(
+        &rt,
+        alloc,
+        &[
+            (b"", &script, b"refused: word 2 too large\n"),
+            (&demo, &script, b"refused: word 1 too large\n"),
+        ],
+    )
+}
+
+#[test]
+fn a_failing_device_ends_the_run(rt: HostRuntime) -> Result<(), Fail> {
+    expect_faults(
+        &rt,
+        rt.alloc(),
+        &[
+            (
+                Failing {
+                    takes: &[0],
+                    ..NONE
+                },
+                b"",
+                3,
+                false,
+                b"",
+            ),
+            (
+                Failing {
+                    takes: &[1],
+                    ..NONE
+                },
+                b"jump",
+                3,
+                false,
+                b"",
+            ),
+            (
+                Failing {
+                    takes: &[2],
+                    ..NONE
+                },
+                b"",
+                0,
+                true,
+                b"",
+            ),
+            (Failing { puts: &[0], ..NONE }, b"", 4, false, b""),
+            (
+                Failing { puts: &[0], ..NONE },
+                b"cut 1",
+                1,
+                false,
+                b"refused: line 1: word\n",
+            ),
+            (
+                Failing {
+                    pushes: &[0],
+                    ..NONE
+                },
+                b"cut 1",
+                5,
+                false,
+                b"refused: li",
+            ),
+            (
+                Failing {
+                    pushes: &[0],
+                    ..NONE
+                },
+                b"",
+                0,
+                true,
+                b"",
+            ),
+        ],
+    )
+}
+
+#[test]
+fn an_input_may_be_the_output(rt: HostRuntime) -> Result<(), Fail> {
+    let alloc = rt.alloc();
+    let demo = with_header(alloc, b"\x01\x02\x03\x04\x80rest")?;
+    let words = ["edit", "in.lmp", "script", "in.lmp"];
+    let left = ran(alloc, &words, &demo, b"insert 5 6 7 8", NONE)?;
+    let out = with_header(alloc, b"\x05\x06\x07\x08\x01\x02\x03\x04\x80")?;
+    assert_eq!(rt; left.status.number(), 0);
+    assert!(rt; left.shelf.file("in.lmp") == Some(out.as_slice()));
+    Ok(())
+}
+
+#[test]
+fn a_missing_file_is_a_read_fault(rt: HostRuntime) -> Result<(), Fail> {
+    let words = ["edit", "no.lmp", "script", "out.lmp"];
+    let left = ran(rt.alloc(), &words, b"", b"", NONE)?;
+    assert_eq!(rt; left.status.number(), 3);
+    assert_eq!(rt; left.note.bytes(), b"".as_slice());
+    Ok(())
+}
+
+#[test]
+fn other_words_touch_nothing(rt: HostRuntime) -> Result<(), Fail> {
+    expect_usage(
+        &rt,
+        rt.alloc(),
+        &[
+            &[],
+            &["edit"],
+            &["edit", "in.lmp", "script"],
+            &["edit", "in.lmp", "script", "out.lmp", "more"],
+            &["Edit", "in.lmp", "script", "out.lmp"],
+            &["", "in.lmp", "script", "out.lmp"],
+        ],
+    )
+}

@@ -1,0 +1,75 @@
+// What a command makes of the texts of its inputs.
+ghost use Rattle.std.specs.Prelude.{◌≡◌, ◌≤◌, map, option_map, length, IfOk};
+ghost use Rattle.lmp_codec.specs.Demo.{most_tics};
+ghost use Rattle.dsda_cli.specs.Reading.{demo_of};
+ghost use Rattle.dsda_cli.specs.Meaning.{as_demo, edited, worked, answer_of, too_large, text_at};
+ghost use Rattle.dsda_cli.specs.Inside.{Gives};
+
+use crate::command::{Command, Input, inputs_of};
+use crate::edits::scripted;
+use crate::fault::InputFault;
+use crate::product::{Product, Stop};
+use lmp_codec::{Demo, read_demo, write_demo};
+use std::alloc::Global;
+
+/// What the command makes of these texts, or their first fault. A text above its limit is refused before any is read.
+pub fn judge(alloc: Global, command: Command, texts: &[Vec<u8>]) -> Result<Product, Stop>
+    ensures { Gives (λ work. work) result (answer_of command (map (λ text. text.items) texts.now)) }
+{
+    if let Some(word) = too_large(inputs_of(command), texts) {
+        return Err(Stop::Refused(InputFault::Large(word)));
+    }
+    work(alloc, command, texts)
+}
+
+/// The word of the first input whose text is above its limit.
+fn too_large(inputs: &[Input], texts: &[Vec<u8>]) -> Option<u32>
+    ensures { result ≡ option_map (λ pair. pair.0.word) (too_large inputs.now (map (λ text. text.items) texts.now)) }
+{
+    let (input, _) = inputs
+        .iter()
+        .zip(texts)
+        .find(|(input, text)| text.len() > input.limit as usize)?;
+    Some(input.word)
+}
+
+/// The text of the input at a place, or no bytes where there is no such input.
+fn text_at(texts: &[Vec<u8>], place: usize) -> &[u8]
+    ensures { result.now ≡ text_at (map (λ text. text.items) texts.now) place }
+{
+    match texts.get(place) {
+        Some(text) => text.as_slice(),
+        None => &[],
+    }
+}
+
+/// What the command makes of texts within their limits.
+fn work(alloc: Global, command: Command, texts: &[Vec<u8>]) -> Result<Product, Stop>
+    ensures { Gives (λ work. work) result (worked command (map (λ text. text.items) texts.now)) }
+{
+    match command {
+        Command::Edit => edit(alloc, text_at(texts, 0), text_at(texts, 1)),
+    }
+}
+
+/// The demo with the tics that the script leaves.
+#[tactic(auto, unfolding(crate::specs::Meaning::edited))]
+fn edit(alloc: Global, demo: &[u8], script: &[u8]) -> Result<Product, Stop>
+    ensures { Gives (λ work. work) result (edited demo.now script.now) }
+{
+    let Demo { header, tics } = read(alloc, demo)?;
+    let tape = scripted(alloc, script, tics)?;
+    let bytes = write_demo(alloc, &header, tape.tics())?;
+    Ok(Product {
+        report: Vec::new(alloc),
+        demo: Some(bytes),
+    })
+}
+
+/// The demo that the text is.
+fn read(alloc: Global, text: &[u8]) -> Result<Demo, Stop>
+    ensures read { Gives (λ demo. demo) result (as_demo (demo_of text.now)) }
+    ensures within { IfOk result (λ demo. length demo.tics ≤ most_tics) }
+{
+    Ok(read_demo(alloc, text)?)
+}

@@ -1,0 +1,5 @@
+pub mod File
+pub mod Found
+pub mod Numbers
+pub mod Octants
+pub mod Words

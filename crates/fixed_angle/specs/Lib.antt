@@ -1,0 +1,6 @@
+pub mod Fixed
+pub mod Tables
+pub mod Angle
+pub mod Kept
+pub mod TableFile
+pub use Rattle.first_fault.specs.FirstFault

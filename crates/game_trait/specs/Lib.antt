@@ -1,0 +1,3 @@
+pub mod Shown
+pub mod Replay
+pub use Rattle.doom_edge.specs.Counts

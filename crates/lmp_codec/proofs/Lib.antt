@@ -1,0 +1,4 @@
+pub mod Spelling
+pub mod Progress
+pub mod Fronts
+pub mod Verdicts

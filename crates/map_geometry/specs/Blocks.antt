@@ -1,0 +1,28 @@
+-- The lists of the block map.
+use Rattle.std.specs.Prelude.{◌≡◌, ℕ, ◌+◌, ◌*◌, ◌<◌, ◌≤◌, ◌==◌, pos, ◌<ℤ◌, List, length, drop, All, slice_index}
+use Rattle.std.specs.List.{before_first}
+use Rattle.map_geometry.specs.Derived.{signed_word}
+
+-- the word that ends a list
+abbrev pub end_mark : ℕ
+end_mark = 65535
+
+-- the list that begins at a place of the words: what stands before the end mark, its leading 0 with it
+abbrev pub block_list : List ℕ → ℕ → List ℕ
+block_list words offset = before_first (λ word. word == end_mark) (drop offset words)
+
+-- a list that begins at this place has its end mark among the words
+pub record ReachesEnd (words : List ℕ) (offset : ℕ) : Type 0 where
+  pub place : ℕ
+  pub after : offset ≤ place
+  pub within : place < length words
+  pub mark : slice_index words place ≡ end_mark
+
+-- The block map has its head of four words, at least one column and one row (both are signed words), the place
+-- of each block's list, and the end of each list.
+pub record HasBlockShape (words cells : List ℕ) : Type 0 where
+  pub head : 4 ≤ length words
+  pub width : pos 0 <ℤ signed_word (slice_index words 2)
+  pub height : pos 0 <ℤ signed_word (slice_index words 3)
+  pub offsets : 4 + slice_index words 2 * slice_index words 3 ≤ length words
+  pub ends : All (ReachesEnd words) cells

@@ -1,0 +1,9 @@
+pub mod Lists
+pub mod Derived
+pub mod Blocks
+pub mod Nodes
+pub mod Conditions
+pub mod Level
+pub mod Sides
+pub use Rattle.first_fault.specs.FirstFault
+pub use Rattle.fixed_angle.specs.Fixed

@@ -1,0 +1,228 @@
+-- Lists in pieces of 32: piece k begins at item 32 * k.
+use Rattle.std.proofs.Common.{◌≡◌, ℕ, ◌+◌, ◌-◌, ◌*◌, ◌/◌, ◌%◌, ◌<◌, ◌≤◌, List, Some, [], ◌∷◌, ◌++◌, length, get_or, set, take, slice_get, Result, Ok, Err, OnErr, refl, sym, ap, ◌∙◌, arith, length-append, append_assoc, zero, suc}
+use Rattle.std.proofs.lemmas.List.{append-nil, get_or_append_left, get_or-append_right, set-append_left, set-append_right, length-map, get_or-map, map-set, set-get_or, map-append, take_more}
+use Rattle.std.proofs.lemmas.Grind.{flat_map-append}
+use Rattle.std.proofs.lemmas.Option.{slice_get-get_or}
+use Rattle.page_store.specs.Pages.{items_of, pieces_of, joined, ArePages, IsStore, page_count}
+use Rattle.page_store.specs.declared.page.Page.{Page}
+
+-- a place of the list is a place of a piece
+pub place : {X : Type 0} (ps : List (List X)) (k r : ℕ) → ArePages ps → r < 32 → 32 * k + r < length (joined ps)
+    → (k < length ps) × (r < length (get_or ps k []))
+place [] k r paged small there = absurd (omega arith)
+place (p ∷ []) zero r paged small there = (omega arith, omega (arith, length-append p []))
+place (p ∷ []) (suc k) r paged small there = absurd (omega (arith, length-append p [], paged))
+place (p ∷ q ∷ rest) zero r paged small there = (omega arith, omega (arith, paged.0))
+place (p ∷ q ∷ rest) (suc k) r paged small there =
+    let below = place (q ∷ rest) k r paged.1 small (omega (arith, paged.0, length-append p (joined (q ∷ rest)))) in
+    (omega (arith, below.0), below.1)
+
+-- the item at a place
+pub get_or-joined : {X : Type 0} (ps : List (List X)) (k r : ℕ) (d : X) → ArePages ps → r < 32 → 32 * k + r < length (joined ps)
+    → get_or (joined ps) (32 * k + r) d ≡ get_or (get_or ps k []) r d
+get_or-joined [] k r d paged small there = absurd (omega arith)
+get_or-joined (p ∷ []) zero r d paged small there = rw append-nil (ap (λ i. get_or p i d) (let e : 32 * 0 + r ≡ r = omega arith in e))
+get_or-joined (p ∷ []) (suc k) r d paged small there = absurd (omega (arith, length-append p [], paged))
+get_or-joined (p ∷ q ∷ rest) zero r d paged small there =
+    ap (λ i. get_or (p ++ joined (q ∷ rest)) i d) (let e : 32 * 0 + r ≡ r = omega arith in e)
+    ∙ get_or_append_left p (joined (q ∷ rest)) d r (omega (arith, paged.0))
+get_or-joined (p ∷ q ∷ rest) (suc k) r d paged small there =
+    get_or-append_right p (joined (q ∷ rest)) 32 (32 * suc k + r) d paged.0 (omega arith)
+    ∙ ap (λ i. get_or (joined (q ∷ rest)) i d) (let e : 32 * suc k + r - 32 ≡ 32 * k + r = omega arith in e)
+    ∙ get_or-joined (q ∷ rest) k r d paged.1 small (omega (arith, paged.0, length-append p (joined (q ∷ rest))))
+
+-- an item is written by writing it into its piece
+pub set-joined : {X : Type 0} (ps : List (List X)) (k r : ℕ) (y : X) → ArePages ps → r < 32 → 32 * k + r < length (joined ps)
+    → joined (set ps k (set (get_or ps k []) r y)) ≡ set (joined ps) (32 * k + r) y
+set-joined [] k r y paged small there = absurd (omega arith)
+set-joined (p ∷ []) zero r y paged small there =
+    append-nil (set p r y) ∙ ap (λ i. set p i y) (let e : r ≡ 32 * 0 + r = omega arith in e)
+    ∙ ap (λ xs. set xs (32 * 0 + r) y) (sym (append-nil p))
+set-joined (p ∷ []) (suc k) r y paged small there = absurd (omega (arith, length-append p [], paged))
+set-joined (p ∷ q ∷ rest) zero r y paged small there =
+    sym (ap (λ i. set (p ++ joined (q ∷ rest)) i y) (let e : 32 * 0 + r ≡ r = omega arith in e)
+    ∙ set-append_left p (joined (q ∷ rest)) r y (omega (arith, paged.0)))
+set-joined (p ∷ q ∷ rest) (suc k) r y paged small there =
+    sym (set-append_right p (joined (q ∷ rest)) 32 (32 * suc k + r) y paged.0 (omega arith)
+    ∙ ap (λ i. p ++ set (joined (q ∷ rest)) i y) (let e : 32 * suc k + r - 32 ≡ 32 * k + r = omega arith in e)
+    ∙ ap (λ xs. p ++ xs) (sym (set-joined (q ∷ rest) k r y paged.1 small (omega (arith, paged.0, length-append p (joined (q ∷ rest)))))))
+
+-- a piece may be replaced by one as long
+pub ArePages-set : {X : Type 0} (ps : List (List X)) (k : ℕ) (piece : List X) → ArePages ps → length piece ≡ length (get_or ps k [])
+    → ArePages (set ps k piece)
+ArePages-set [] k piece paged same = tt
+ArePages-set (p ∷ []) zero piece paged same = (omega (arith, paged, same), omega (arith, paged, same))
+ArePages-set (p ∷ []) (suc k) piece paged same = paged
+ArePages-set (p ∷ q ∷ rest) zero piece paged same = (same ∙ paged.0, paged.1)
+ArePages-set (p ∷ q ∷ rest) (suc zero) piece paged same = (paged.0, ArePages-set (q ∷ rest) zero piece paged.1 same)
+ArePages-set (p ∷ q ∷ rest) (suc (suc k)) piece paged same = (paged.0, ArePages-set (q ∷ rest) (suc k) piece paged.1 same)
+
+-- where the pages are full there is room for one more
+pub ArePages-push : {X : Type 0} (ps : List (List X)) (n : ℕ) (piece : List X) → ArePages ps → length (joined ps) ≡ 32 * n
+    → 0 < length piece → length piece ≤ 32 → ArePages (ps ++ piece ∷ [])
+ArePages-push [] n piece paged full some_item fits = (some_item, fits)
+ArePages-push (p ∷ []) n piece paged full some_item fits = (omega (arith, paged, length-append p []), (some_item, fits))
+ArePages-push (p ∷ q ∷ rest) n piece paged full some_item fits =
+    (paged.0, ArePages-push (q ∷ rest) (n - 1) piece paged.1 (omega (arith, paged.0, length-append p (joined (q ∷ rest)))) some_item fits)
+
+-- where they are not, the last page is the one that the length names, and has the rest
+pub last_page : {X : Type 0} (ps : List (List X)) (k r : ℕ) → ArePages ps → length (joined ps) ≡ 32 * k + r → 0 < r → r < 32
+    → (length ps ≡ k + 1) × (length (get_or ps k []) ≡ r)
+last_page [] k r paged len some_item small = absurd (omega arith)
+last_page (p ∷ []) zero r paged len some_item small = (omega arith, omega (arith, length-append p []))
+last_page (p ∷ []) (suc k) r paged len some_item small = absurd (omega (arith, paged, length-append p []))
+last_page (p ∷ q ∷ rest) zero r paged len some_item small = absurd (omega (arith, paged.0, length-append p (joined (q ∷ rest))))
+last_page (p ∷ q ∷ rest) (suc k) r paged len some_item small =
+    let after = last_page (q ∷ rest) k r paged.1 (omega (arith, paged.0, length-append p (joined (q ∷ rest)))) some_item small in
+    (omega (arith, after.0), after.1)
+
+-- the last page may grow
+pub ArePages_grown : {X : Type 0} (ps : List (List X)) (k : ℕ) (piece : List X) → ArePages ps → length ps ≡ k + 1 → 0 < length piece → length piece ≤ 32
+    → ArePages (set ps k piece)
+ArePages_grown [] k piece paged last some_item fits = tt
+ArePages_grown (p ∷ []) zero piece paged last some_item fits = (some_item, fits)
+ArePages_grown (p ∷ []) (suc k) piece paged last some_item fits = absurd (omega arith)
+ArePages_grown (p ∷ q ∷ rest) zero piece paged last some_item fits = absurd (omega arith)
+ArePages_grown (p ∷ q ∷ rest) (suc zero) piece paged last some_item fits =
+    (paged.0, ArePages_grown (q ∷ rest) zero piece paged.1 (omega arith) some_item fits)
+ArePages_grown (p ∷ q ∷ rest) (suc (suc k)) piece paged last some_item fits =
+    (paged.0, ArePages_grown (q ∷ rest) (suc k) piece paged.1 (omega arith) some_item fits)
+
+-- and the list grows with it
+pub joined_grown : {X : Type 0} (ps : List (List X)) (k : ℕ) (more : List X) → length ps ≡ k + 1
+    → joined (set ps k (get_or ps k [] ++ more)) ≡ joined ps ++ more
+joined_grown [] k more last = absurd (omega arith)
+joined_grown (p ∷ []) zero more last = append-nil (p ++ more) ∙ ap (λ xs. xs ++ more) (sym (append-nil p))
+joined_grown (p ∷ []) (suc k) more last = absurd (omega arith)
+joined_grown (p ∷ q ∷ rest) zero more last = absurd (omega arith)
+joined_grown (p ∷ q ∷ rest) (suc k) more last =
+    ap (λ xs. p ++ xs) (joined_grown (q ∷ rest) k more (omega arith)) ∙ sym (append_assoc p (joined (q ∷ rest)) more)
+
+-- how many pages there are
+pub length-pages : {X : Type 0} (ps : List (List X)) → ArePages ps → length ps ≡ page_count (length (joined ps))
+length-pages [] paged = refl
+length-pages (p ∷ []) paged = omega (arith, paged, length-append p [])
+length-pages (p ∷ q ∷ rest) paged = omega (arith, paged.0, length-append p (joined (q ∷ rest)), length-pages (q ∷ rest) paged.1)
+
+-- item i is in page i / 32, at i % 32
+halves : (i : ℕ) → 32 * (i / 32) + i % 32 ≡ i
+halves i = omega arith
+
+-- the page of item i is there
+pub place_of : {T : Type 0} (pages : List (Page T)) (i : ℕ) → ArePages (pieces_of pages) → i < length (joined (pieces_of pages))
+    → (i / 32 < length pages) × (i % 32 < length (get_or (pieces_of pages) (i / 32) []))
+place_of pages i paged there =
+    let found = place (pieces_of pages) (i / 32) (i % 32) paged (omega arith) (omega arith) in
+    (omega (arith, found.0, length-map pages items_of), found.1)
+
+-- and has the item
+pub page_is : {T : Type 0} (pages : List (Page T)) (k : ℕ) (page : Page T) → k < length pages → page ≡ get_or pages k page
+    → get_or (pieces_of pages) k [] ≡ items_of page
+page_is pages k page there is = get_or-map items_of pages k page [] there ∙ ap items_of (sym is)
+
+-- the place of item i in its page is within the page
+pub item_within : {T : Type 0} (pages : List (Page T)) (i : ℕ) (page : Page T) → ArePages (pieces_of pages) → i < length (joined (pieces_of pages))
+    → page ≡ get_or pages (i / 32) page → i % 32 < length (items_of page)
+item_within pages i page paged there is =
+    let found = place_of pages i paged there in
+    omega (arith, found.1, ap length (page_is pages (i / 32) page found.0 is))
+
+-- and there stands item i
+pub item_of : {T : Type 0} (pages : List (Page T)) (i : ℕ) (page : Page T) (item : T) → ArePages (pieces_of pages) → i < length (joined (pieces_of pages))
+    → page ≡ get_or pages (i / 32) page → item ≡ get_or (items_of page) (i % 32) item
+    → slice_get (joined (pieces_of pages)) i ≡ Some item
+item_of pages i page item paged there page_here item_here =
+    let found = place_of pages i paged there in
+    slice_get-get_or (joined (pieces_of pages)) i item there
+    ∙ ap Some (
+    ap (λ place. get_or (joined (pieces_of pages)) place item) (sym (halves i))
+    ∙ get_or-joined (pieces_of pages) (i / 32) (i % 32) item paged (omega arith) (omega arith)
+    ∙ ap (λ items. get_or items (i % 32) item) (page_is pages (i / 32) page found.0 page_here)
+    ∙ sym item_here)
+
+-- item i is written by writing it into its page
+pub written : {T : Type 0} (pages : List (Page T)) (i : ℕ) (page after : Page T) (item : T) → ArePages (pieces_of pages) → i < length (joined (pieces_of pages))
+    → page ≡ get_or pages (i / 32) page → items_of after ≡ set (items_of page) (i % 32) item
+    → joined (pieces_of (set pages (i / 32) after)) ≡ set (joined (pieces_of pages)) i item
+written pages i page after item paged there page_here is =
+    let found = place_of pages i paged there in
+    let piece = is ∙ ap (λ items. set items (i % 32) item) (sym (page_is pages (i / 32) page found.0 page_here)) in
+    ap joined (map-set items_of pages (i / 32) after ∙ ap (λ items. set (pieces_of pages) (i / 32) items) piece)
+    ∙ set-joined (pieces_of pages) (i / 32) (i % 32) item paged (omega arith) (omega arith)
+    ∙ ap (λ place. set (joined (pieces_of pages)) place item) (halves i)
+
+-- a page may be replaced by one of as many items
+pub paged_after : {T : Type 0} (pages : List (Page T)) (k : ℕ) (page after : Page T) → ArePages (pieces_of pages) → k < length pages
+    → page ≡ get_or pages k page → length (items_of after) ≡ length (items_of page)
+    → ArePages (pieces_of (set pages k after))
+paged_after pages k page after paged there page_here same =
+    rw map-set (ArePages-set (pieces_of pages) k (items_of after) paged (same ∙ sym (ap length (page_is pages k page there page_here))))
+
+-- a page that is replaced by one of the same items changes nothing
+pub pieces_stay : {T : Type 0} (pages : List (Page T)) (k : ℕ) (page after : Page T) → k < length pages → page ≡ get_or pages k page → items_of after ≡ items_of page
+    → pieces_of (set pages k after) ≡ pieces_of pages
+pieces_stay pages k page after there page_here same =
+    map-set items_of pages k after
+    ∙ ap (λ items. set (pieces_of pages) k items) (same ∙ sym (page_is pages k page there page_here))
+    ∙ set-get_or (pieces_of pages) k []
+
+-- a page has at most 32 items
+pub page_fits : {X : Type 0} (ps : List (List X)) (k : ℕ) → ArePages ps → length (get_or ps k []) ≤ 32
+page_fits [] k paged = omega arith
+page_fits (p ∷ []) zero paged = paged.1
+page_fits (p ∷ []) (suc k) paged = omega arith
+page_fits (p ∷ q ∷ rest) zero paged = omega (arith, paged.0)
+page_fits (p ∷ q ∷ rest) (suc k) paged = page_fits (q ∷ rest) k paged.1
+
+-- the page of a place has at most 32 items
+pub page_small : {T : Type 0} (pages : List (Page T)) (k : ℕ) (page : Page T) → ArePages (pieces_of pages) → k < length pages → page ≡ get_or pages k page
+    → length (items_of page) ≤ 32
+page_small pages k page paged there is = omega (arith, page_fits (pieces_of pages) k paged, ap length (page_is pages k page there is))
+
+-- a new page after full ones
+pub pushed : {T : Type 0} (pages : List (Page T)) (len : ℕ) (page : Page T) (item : T) → IsStore (pieces_of pages) len → len % 32 ≡ 0
+    → items_of page ≡ item ∷ []
+    → ArePages (pieces_of (pages ++ page ∷ [])) × (joined (pieces_of (pages ++ page ∷ [])) ≡ joined (pieces_of pages) ++ item ∷ [])
+pushed {T = T} pages len page item store full one =
+    let same : pieces_of (pages ++ page ∷ []) ≡ pieces_of pages ++ (item ∷ []) ∷ [] =
+    map-append items_of pages (page ∷ []) ∙ ap (λ items. pieces_of pages ++ items ∷ []) one in (
+      rw same (ArePages-push (pieces_of pages) (len / 32) (item ∷ []) store.paged (omega (arith, store.counted)) (omega arith) (omega arith)),
+      rw same (flat_map-append (λ piece. piece) (pieces_of pages) ((item ∷ []) ∷ [])),
+    )
+
+-- the last page, where it has room
+pub last_is_there : {T : Type 0} (pages : List (Page T)) (len : ℕ) → IsStore (pieces_of pages) len → (len % 32 ≡ 0 → ⊥) → length pages ≡ len / 32 + 1
+last_is_there pages len store room =
+    omega (arith, length-map pages items_of, (last_page (pieces_of pages) (len / 32) (len % 32) store.paged (omega (arith, store.counted)) (omega (arith, room)) (omega arith)).0)
+
+-- and an item more in it
+pub grown : {T : Type 0} (pages : List (Page T)) (len : ℕ) (page after : Page T) (item : T) → IsStore (pieces_of pages) len → (len % 32 ≡ 0 → ⊥)
+    → page ≡ get_or pages (len / 32) page → items_of after ≡ items_of page ++ item ∷ []
+    → ArePages (pieces_of (set pages (len / 32) after)) × (joined (pieces_of (set pages (len / 32) after)) ≡ joined (pieces_of pages) ++ item ∷ [])
+grown pages len page after item store room page_here is =
+    let last = last_page (pieces_of pages) (len / 32) (len % 32) store.paged (omega (arith, store.counted)) (omega (arith, room)) (omega arith) in
+    let there : len / 32 < length pages = omega (arith, last_is_there pages len store room) in
+    let piece : items_of after ≡ get_or (pieces_of pages) (len / 32) [] ++ item ∷ [] =
+    is ∙ ap (λ items. items ++ item ∷ []) (sym (page_is pages (len / 32) page there page_here)) in
+    let same : pieces_of (set pages (len / 32) after) ≡ set (pieces_of pages) (len / 32) (get_or (pieces_of pages) (len / 32) [] ++ item ∷ []) =
+    map-set items_of pages (len / 32) after ∙ ap (λ items. set (pieces_of pages) (len / 32) items) piece in
+    let longer = length-append (get_or (pieces_of pages) (len / 32) []) (item ∷ []) in (
+      rw same (ArePages_grown (pieces_of pages) (len / 32) (get_or (pieces_of pages) (len / 32) [] ++ item ∷ []) store.paged last.0 (omega (arith, longer)) (omega (arith, longer, last.1))),
+      rw same (joined_grown (pieces_of pages) (len / 32) (item ∷ []) last.0),
+    )
+
+-- one more page has a second name
+pub named_more : {T : Type 0} (named : List (Page T)) (pieces : List (List T)) (k : ℕ) (pages : List (Page T)) (page more : Page T)
+    → pieces_of named ≡ take k pieces → pieces_of pages ≡ pieces → k < length pages → page ≡ get_or pages k page → items_of more ≡ items_of page
+    → pieces_of (named ++ more ∷ []) ≡ take (k + 1) pieces
+named_more named pieces k pages page more so_far same there page_here is =
+    let within : k < length pieces = omega (arith, ap length same, length-map pages items_of) in
+    map-append items_of named (more ∷ [])
+    ∙ ap (λ items. items ++ items_of more ∷ []) so_far
+    ∙ ap (λ items. take k pieces ++ items ∷ []) (is ∙ sym (page_is pages k page there page_here) ∙ ap (λ items. get_or items k []) same)
+    ∙ sym (take_more pieces k [] within)
+
+-- a fact that holds at an error
+pub on_err : {T E : Type 0} {P : Type 0} (r : Result T E) → P → OnErr r P
+on_err (Ok x) holds = tt
+on_err (Err e) holds = holds

@@ -1,0 +1,34 @@
+-- A list in pages.
+use Rattle.std.specs.Prelude.{◌≡◌, ℕ, ◌+◌, ◌/◌, ◌<◌, ◌≤◌, List, [], ◌∷◌, map, length}
+use Rattle.std.specs.List.{flat_map}
+use Rattle.std.specs.Arc.{arc_value}
+use Rattle.page_store.specs.declared.page.Page.{Page}
+use Rattle.page_store.specs.declared.page.Page.TheVariants.{Owned, Shared}
+
+-- the items of a page
+abbrev pub items_of : {T : Type 0} → Page T → List T
+items_of (Owned items) = items.items
+items_of (Shared items) = (arc_value items).items
+
+-- the items of each page
+abbrev pub pieces_of : {T : Type 0} → List (Page T) → List (List T)
+pieces_of pages = map items_of pages
+
+-- the pieces one after the other
+abbrev pub joined : {T : Type 0} → List (List T) → List T
+joined pieces = flat_map (λ piece. piece) pieces
+
+-- each piece but the last has 32 items, and the last has 1 to 32
+abbrev pub ArePages : {T : Type 0} → List (List T) → Type 0
+ArePages [] = Unit {0}
+ArePages (piece ∷ []) = (0 < length piece) × (length piece ≤ 32)
+ArePages (piece ∷ next ∷ rest) = (length piece ≡ 32) × ArePages (next ∷ rest)
+
+-- the pages of a store: they are in order, and so many items are in them
+pub record IsStore {T : Type 0} (pieces : List (List T)) (len : ℕ) : Type 0 where
+  pub paged : ArePages pieces
+  pub counted : length (joined pieces) ≡ len
+
+-- how many pages so many items take
+abbrev pub page_count : ℕ → ℕ
+page_count len = (len + 31) / 32

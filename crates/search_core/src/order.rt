@@ -1,0 +1,315 @@
+//! Turns under an order: first those that the order names, then round after round, until all hands have ended.
+
+ghost use Rattle.std.specs.Prelude.{◌≡◌, ◌≢◌, ℕ, ◌+◌, ◌-◌, ◌*◌, ◌^◌, ◌<◌, ◌≤◌, ◌⊎◌, ◌↔◌, Bool, true, false, List, length, drop, ◌++◌, All, IsTrue, IfOk, IfSome, IsNone, OnSome, slice_index, slice_index_or};
+ghost use Rattle.search_core.specs.Machine.{Machine, opening, AllOver, IsMachine, IsMeets, is_in, first_of, Covers, Fits, work, run, IfTurnTries};
+ghost use Rattle.search_core.specs.Order.{IsSearch, Asks, hand_next, number_next, numbers_from, rounds, is_over, taken, events, events_of, hands_of, greatest, Progress, Follows, Carries, RunsNext, left_of};
+
+use crate::machine::{Core, Memory, Turn};
+use std::alloc::Global;
+use std::marker::Model;
+
+/// Whatever hands take their turns in whatever order, the least number that is known is the count or
+/// meets, and where all hands have ended it is the first number that meets.
+pub fn any_order()
+    ensures known { (count block hands : ℕ) (meets order : List ℕ) → IsSearch count block hands meets → All (λ i. i < hands) order
+        → ((run (is_in meets) (opening count block hands) order).least ≡ count)
+        ⊎ IsTrue (is_in meets (run (is_in meets) (opening count block hands) order).least) }
+    ensures first { (count block hands : ℕ) (meets order : List ℕ) → IsSearch count block hands meets → All (λ i. i < hands) order
+        → AllOver (run (is_in meets) (opening count block hands) order)
+        → (run (is_in meets) (opening count block hands) order).least ≡ first_of count meets }
+{}
+
+/// The number of turns under an order is that of the turns until all hands have ended, however many
+/// rounds more are made, and there are fewer than 2^43.
+pub fn number_of_turns()
+    ensures ends { (count block hands : ℕ) (meets order : List ℕ) → IsSearch count block hands meets → All (λ i. i < hands) order
+        → (enough : ℕ) × AllOver (run (is_in meets) (opening count block hands) (order ++ rounds enough hands)) }
+    ensures same { (count block hands : ℕ) (meets order : List ℕ) (enough : ℕ) → IsSearch count block hands meets → All (λ i. i < hands) order
+        → AllOver (run (is_in meets) (opening count block hands) (order ++ rounds enough hands))
+        → taken (is_in meets) (opening count block hands) (order ++ rounds enough hands) ≡ events (is_in meets) (opening count block hands) order }
+    ensures few { (count block hands : ℕ) (meets order : List ℕ) → IsSearch count block hands meets → All (λ i. i < hands) order
+        → events (is_in meets) (opening count block hands) order < 2 ^ 43 }
+{}
+
+/// A number that a hand is to try.
+#[derive(Clone, Copy, Debug, PartialEq, Eq)]
+pub struct Trial {
+    pub hand: u32,
+    pub number: u64,
+}
+
+/// A search whose hands take their turns under an order: first as the order names them, and then round
+/// after round from hand 0. The turn of a hand that has ended is skipped. Contracts see it as a `Progress`.
+#[derive(Debug, Drop)]
+pub struct Schedule {
+    core: Core,
+    order: Vec<u8>,
+    place: usize,
+    at: u32,
+    taken: u64,
+}
+
+impl Model for Schedule {
+    ghost use Rattle.std.specs.Prelude.{length};
+    ghost use Rattle.search_core.specs.Order.{Progress, left_of, IsSchedule};
+
+    ghost Value = { Progress };
+
+    ghost view = { λ s. record {
+      core = s.core;
+      left = left_of s.order.items s.place s.at (length s.core.hands);
+      taken = s.taken;
+    } };
+
+    ghost invariant = { λ s. IsSchedule s.core s.order.items s.at s.taken };
+}
+
+/// As many hands as an order asks for: one more than its greatest number.
+fn hands_for(order: &[u8]) -> u32
+    requires { All (λ i. i < 64) order.now }
+    ensures hands { result ≡ hands_of order.now }
+    ensures few { result ≤ 64 }
+    ensures each { All (λ i. i < result) order.now }
+{
+    let mut greatest = 0;
+    for hand in order {
+        greatest = greatest.max(*hand);
+    }
+    u32::from(greatest) + 1
+}
+
+/// A copy of an order.
+fn copy_of(alloc: Global, order: &[u8]) -> Result<Vec<u8>, Memory>
+    ensures { IfOk result (λ v. v.items ≡ order.now) }
+{
+    Vec::from_slice(alloc, order).map_err(|_| Memory)
+}
+
+/// The first place of the order from `place` on whose hand has not ended, or one past its end.
+fn running_place(core: &Core, order: &[u8], place: usize) -> usize
+    requires hands { All (λ i. i < length core.now.hands) order.now }
+    ensures turns { (meets : ℕ → Bool) (at : ℕ) → events meets core.now (left_of order.now result at (length core.now.hands))
+        ≡ events meets core.now (left_of order.now place at (length core.now.hands)) }
+    ensures found { result < length order.now → is_over core.now (slice_index order.now result) ≡ false }
+{
+    for i in place..order.len() {
+        if !core.is_over(u32::from(order[i])) {
+            return i;
+        }
+    }
+    place.max(order.len())
+}
+
+/// The next hand of a round that has not ended, in this round or in the one after it, or the number of hands.
+fn running_hand(core: &Core, at: u32) -> u32
+    requires round { at ≤ length core.now.hands }
+    ensures round { result ≤ length core.now.hands }
+    ensures turns { (meets : ℕ → Bool) → events meets core.now (numbers_from result (length core.now.hands - result))
+        ≡ events meets core.now (numbers_from at (length core.now.hands - at)) }
+    ensures found { result < length core.now.hands → is_over core.now result ≡ false }
+    ensures none { result ≡ length core.now.hands → AllOver core.now }
+{
+    let next = core.running_from(at);
+    if next < core.hands() {
+        return next;
+    }
+    core.running_from(0)
+}
+
+impl Schedule {
+    /// A search among the numbers below `count`, in blocks of `block` numbers, by as many hands as the order
+    /// asks for.
+    pub fn new(alloc: Global, count: u64, block: u64, order: &[u8]) -> Result<Schedule, Memory>
+        requires count { count ≤ 2 ^ 40 }
+        requires positive { 0 < block }
+        requires block { block ≤ 2 ^ 20 }
+        requires hands { All (λ i. i < 64) order.now }
+        ensures core { IfOk result (λ search. search.core ≡ opening count block (hands_of order.now)) }
+        ensures follows { IfOk result (λ search. (meets : List ℕ) → IsMeets count meets → Follows meets (events_of count block meets order.now) search) }
+        ensures covers { IfOk result (λ search. (left : ℕ → Bool) → Covers left search.core) }
+    {
+        let core = Core::new(alloc, count, block, hands_for(order))?;
+        let order = copy_of(alloc, order)?;
+        Ok(Schedule {
+            core,
+            order,
+            place: 0,
+            at: 0,
+            taken: 0,
+        })
+    }
+
+    /// Passes over the hands that have ended, and says whether there is one that has not.
+    fn skip(&mut self) -> bool
+        ensures core { self.new.core ≡ self.old.core }
+        ensures carries { Carries self.old self.new }
+        ensures found { IsTrue result → RunsNext self.new }
+        ensures none { result ≡ false → AllOver self.new.core }
+        ensures ended { result ≡ false → (meets : ℕ → Bool) → events meets self.new.core self.new.left ≡ 0 }
+        ensures sound { IsMachine self.new.core }
+    {
+        self.place = running_place(&self.core, &self.order, self.place);
+        if self.place < self.order.len() {
+            return true;
+        }
+        self.at = running_hand(&self.core, self.at);
+        self.at < self.core.hands()
+    }
+
+    /// The hand whose turn comes next.
+    fn front(&self) -> u32
+        requires { 0 < length self.now.left }
+        ensures next { result ≡ hand_next self.now }
+        ensures hand { result < length self.now.core.hands }
+    {
+        if self.place < self.order.len() {
+            u32::from(self.order[self.place])
+        } else {
+            self.at
+        }
+    }
+
+    /// Counts the turn of the hand whose turn came, and passes it.
+    fn pass(&mut self)
+        requires some_hand { 0 < length self.old.left }
+        requires few { self.old.taken + work self.old.core < 2 ^ 43 }
+        ensures { self.new ≡ record self.old { left = drop 1 self.old.left; taken = self.old.taken + 1 } }
+    {
+        if self.place < self.order.len() {
+            self.place += 1;
+        } else {
+            self.at += 1;
+        }
+        self.taken += 1;
+    }
+
+    /// Takes the next turn, of a hand that has not ended.
+    fn turn(&mut self) -> Turn
+        requires { RunsNext self.old }
+        ensures carries { Carries self.old self.new }
+        ensures did { result ≡ Turn.Did → work self.new.core < work self.old.core }
+        ensures tries { IfTurnTries result (λ k. Asks self.new × (number_next self.new ≡ k) × (k < self.new.core.count)) }
+        ensures never { result ≢ Turn.Over }
+    {
+        let hand = self.front();
+        match self.core.turn(hand) {
+            Turn::Did => {
+                self.pass();
+                Turn::Did
+            }
+            other => other,
+        }
+    }
+
+    /// Takes turns until a hand is to try a number, and answers which; or until all hands have ended. The trial
+    /// stays until `tried` is called.
+    pub fn next_try(&mut self) -> Option<Trial>
+        ensures carries { Carries self.old self.new }
+        ensures trial { IfSome result (λ trial. Asks self.new × (trial.hand ≡ hand_next self.new) × (trial.number ≡ number_next self.new)) }
+        ensures within { IfSome result (λ trial. trial.number < self.new.core.count) }
+        ensures over { IsNone result → AllOver self.new.core }
+        ensures done { IsNone result → (meets : List ℕ) (all : ℕ) → Follows meets all self.new
+            → (self.new.taken ≡ all) × (self.new.core.least ≡ first_of self.new.core.count meets) }
+    {
+        while self.skip() {
+            if let Turn::Try(number) = self.turn() {
+                let hand = self.front();
+                return Some(Trial { hand, number });
+            }
+        }
+        None
+    }
+
+    /// Tells the hand whose turn comes next whether the number that it is to try meets.
+    pub fn tried(&mut self, met: bool)
+        requires { Asks self.old }
+        ensures follows { (meets : List ℕ) (all : ℕ) → met ≡ is_in meets (number_next self.old)
+            → Follows meets all self.old → Follows meets all self.new }
+        ensures covers { (left : ℕ → Bool) → (met ≡ false → left (number_next self.old) ≡ false)
+            → Covers left self.old.core → Covers left self.new.core }
+        ensures count { self.new.core.count ≡ self.old.core.count }
+        ensures work { work self.new.core < work self.old.core }
+    {
+        let hand = self.front();
+        self.core.tried(hand, met);
+        self.pass();
+    }
+
+    /// How many turns were taken.
+    pub fn turns(&self) -> u64
+        ensures { result ≡ self.now.taken }
+    {
+        self.taken
+    }
+
+    /// The least number that was posted, or the count.
+    pub fn least(&self) -> u64
+        ensures { result ≡ self.now.core.least }
+    {
+        self.core.least()
+    }
+}
+
+#[cfg(test)]
+mod tests {
+    use super::*;
+    use std::process::Abort;
+
+    /// Whether a step of 3904 for each whole `side` of the number and of 2048 for the rest comes to a length in a range.
+    fn is_in_reach(number: u64, side: u64, low: u64, high: u64) -> bool
+        requires { 0 < side }
+    {
+        let length = 3904u64
+            .saturating_mul(number / side)
+            .saturating_add(2048u64.saturating_mul(number % side));
+        low <= length && length <= high
+    }
+
+    /// The least number that is in reach and the number of turns, in blocks of 256 under an order.
+    fn search(
+        rt: &impl Abort,
+        alloc: Global,
+        side: u64,
+        low: u64,
+        high: u64,
+        order: &[u8],
+    ) -> Result<(u64, u64), Memory>
+        requires positive { 0 < side }
+        requires small { side < 1000 }
+    {
+        assert!(rt; order.iter().all(|hand| *hand < 64));
+        let mut search = Schedule::new(alloc, side * side, 256, order)?;
+        for _ in 0..100000 {
+            match search.next_try() {
+                Some(trial) => search.tried(is_in_reach(trial.number, side, low, high)),
+                None => break,
+            }
+        }
+        Ok((search.least(), search.turns()))
+    }
+
+    #[test]
+    fn turns_under_orders(rt: HostRuntime) -> Result<(), Memory> {
+        let alloc = rt.alloc();
+        assert_eq!(rt; search(&rt, alloc, 3, 8000, 8000, &[])?, (5, 15));
+        assert_eq!(rt;
+            search(&rt, alloc, 3, 8000, 8000, &[0, 0, 1, 2, 1])?,
+            (5, 17)
+        );
+        assert_eq!(rt; search(&rt, alloc, 3, 8000, 8000, &[3, 3, 3, 0])?, (5, 18));
+        assert_eq!(rt; search(&rt, alloc, 20, 10240, 1000000, &[0, 1])?, (5, 20));
+        assert_eq!(rt;
+            search(
+                &rt,
+                alloc,
+                20,
+                10240,
+                1000000,
+                &[0, 0, 0, 0, 0, 0, 0, 0, 0, 0, 0, 0, 0, 0, 1]
+            )?,
+            (5, 18)
+        );
+        assert_eq!(rt; search(&rt, alloc, 3, 1, 1, &[])?.0, 9, "none");
+        Ok(())
+    }
+}
