@@ -1,0 +1,4 @@
+//! Reads a level from a map's lumps.
+#![tactic(auto)]
+
+mod walks;
