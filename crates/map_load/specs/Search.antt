@@ -1,7 +1,11 @@
 -- The search for a loop among the nodes.
-use Rattle.std.specs.Prelude.{◌≡◌, ℕ, ◌<◌, Bool, true, false, List, length, slice_index_or}
+use Rattle.std.specs.Prelude.{◌≡◌, ◌↔◌, ℕ, ◌<◌, Bool, true, false, IsTrue, List, length, slice_index_or, All}
 use Rattle.map_geometry.specs.declared.records.Node.{Node}
-use Rattle.map_geometry.specs.Lists.{no_node}
+use Rattle.first_fault.specs.FirstFault.{Condition, for_each}
+use Rattle.map_geometry.specs.declared.fault.LevelFault.{LevelFault}
+use Rattle.map_geometry.specs.Lists.{Lists, no_node}
+use Rattle.map_geometry.specs.Blocks.{block_list}
+use Rattle.map_geometry.specs.Conditions.{node_conditions, cell_conditions}
 
 -- the node with a number
 abbrev pub node_of : List Node → ℕ → Node
@@ -17,3 +21,16 @@ HaveChildren nodes = (at : ℕ) → at < length nodes → IsThere nodes (node_of
 -- a child that is a node is settled
 abbrev pub IsSettled : List Bool → ℕ → Type 0
 IsSettled settled child = child < 32768 → slice_index_or settled child false ≡ true
+
+-- what has to hold of the nodes' children
+abbrev pub child_conditions : Lists → List (Condition LevelFault)
+child_conditions l = for_each (length l.nodes) (node_conditions l)
+
+-- for each place of a block map's words, whether the list that begins there has numbers of lines as its entries
+pub record TellsSound (words : List ℕ) (lines : ℕ) (sound : List Bool) : Type 0 where
+  pub len : length sound ≡ length words
+  pub each : (k : ℕ) → k < length words → IsTrue (slice_index_or sound k false) ↔ All (λ entry. entry < lines) (block_list words k)
+
+-- what has to hold of the blocks' lists
+abbrev pub every_cell : Lists → List (Condition LevelFault)
+every_cell l = for_each (length l.cells) (cell_conditions l)

@@ -1,0 +1,8 @@
+use Rattle.std.proofs.Common.{None}
+use Rattle.first_fault.specs.FirstFault.{FirstFault, for_each}
+use Rattle.map_geometry.specs.Level.{lists_of}
+use Rattle.map_geometry.specs.Conditions.{cell_conditions}
+use Rattle.map_load.proofs.blocks.cells_fault.Given as goal
+
+abbrev pub invariant-loop-i : goal.invariant-loop-i
+invariant-loop-i l = FirstFault (for_each l.i (cell_conditions (lists_of l.parts))) None
