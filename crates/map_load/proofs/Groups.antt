@@ -29,3 +29,23 @@ loops l checked loop = first_after (child_conditions l) (no_loop l) (Some NodeLo
 
 pub loops_not : (l : Lists) → FirstFault (child_conditions l) None → WalksEnd l.nodes → FirstFault (node_checks l) None
 loops_not l checked ends = first_after (child_conditions l) (no_loop l) None checked (inl (ends, refl))
+
+-- ---- all groups
+
+after_lines : (l : Lists) (outcome : Option LevelFault) → FirstFault (line_checks l) None → FirstFault (subsector_checks l ++ (node_checks l ++ block_checks l)) outcome → FirstFault (conditions l) outcome
+after_lines l outcome lines p = first_after (line_checks l) (subsector_checks l ++ (node_checks l ++ block_checks l)) outcome lines p
+
+after_subsectors : (l : Lists) (outcome : Option LevelFault) → FirstFault (subsector_checks l) None → FirstFault (node_checks l ++ block_checks l) outcome → FirstFault (subsector_checks l ++ (node_checks l ++ block_checks l)) outcome
+after_subsectors l outcome subsectors p = first_after (subsector_checks l) (node_checks l ++ block_checks l) outcome subsectors p
+
+pub in_lines : (l : Lists) (fault : LevelFault) → FirstFault (line_checks l) (Some fault) → FirstFault (conditions l) (Some fault)
+in_lines l fault p = first_within (line_checks l) (subsector_checks l ++ (node_checks l ++ block_checks l)) fault p
+
+pub in_subsectors : (l : Lists) (fault : LevelFault) → FirstFault (line_checks l) None → FirstFault (subsector_checks l) (Some fault) → FirstFault (conditions l) (Some fault)
+in_subsectors l fault lines p = after_lines l (Some fault) lines (first_within (subsector_checks l) (node_checks l ++ block_checks l) fault p)
+
+pub in_nodes : (l : Lists) (fault : LevelFault) → FirstFault (line_checks l) None → FirstFault (subsector_checks l) None → FirstFault (node_checks l) (Some fault) → FirstFault (conditions l) (Some fault)
+in_nodes l fault lines subsectors p = after_lines l (Some fault) lines (after_subsectors l (Some fault) subsectors (first_within (node_checks l) (block_checks l) fault p))
+
+pub in_blocks : (l : Lists) (outcome : Option LevelFault) → FirstFault (line_checks l) None → FirstFault (subsector_checks l) None → FirstFault (node_checks l) None → FirstFault (block_checks l) outcome → FirstFault (conditions l) outcome
+in_blocks l outcome lines subsectors nodes p = after_lines l outcome lines (after_subsectors l outcome subsectors (first_after (node_checks l) (block_checks l) outcome nodes p))

@@ -2,7 +2,11 @@
 #![tactic(auto)]
 
 mod blocks;
+mod checks;
 mod lines;
+mod lumps;
 mod nodes;
+mod reading;
+mod records;
 mod subsectors;
 mod walks;
