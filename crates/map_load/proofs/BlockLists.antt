@@ -6,7 +6,7 @@ use Rattle.std.proofs.lemmas.Bool.{cases_eq, cases_lt, eq-eqb, ne_eqb, false≢t
 use Rattle.std.proofs.lemmas.List.{drop_more, drop_all, length-set, get_or-set_same, get_or-set_other}
 use Rattle.std.proofs.lemmas.List.Elements.{All-nil, All-cons, All-head, All-tail}
 use Rattle.map_geometry.specs.Blocks.{block_list, end_mark}
-use Rattle.map_load.specs.Search.{TellsSound}
+use Rattle.map_load.specs.Steps.{TellsSound}
 
 -- a list is empty at an end mark, and else has its first word and the list behind it
 list_at_mark : (words : List ℕ) (k : ℕ) → k < length words → get_or words k 0 ≡ end_mark → block_list words k ≡ []
@@ -29,13 +29,14 @@ pub judged_back : (words : List ℕ) (lines : ℕ) (sound : List Bool) (rest new
 judged_back words lines sound rest new k judged below step =
     let here : IsTrue new ↔ IsSound words lines k = elim (cases_eq (get_or words k 0) end_mark) [
       | inl mark ↦ rw (list_at_mark words k below mark) (λ _. All-nil (λ entry. entry < lines), λ _. step.1 (inl mark))
-      | inr other ↦ rw (list_at_entry words k below other)
-        (λ is. elim (step.0 is) [
+      | inr other ↦ rw (list_at_entry words k below other) (
+        λ is. elim (step.0 is) [
           | inl mark ↦ absurd (other mark)
           | inr both ↦ All-cons (λ entry. entry < lines) (get_or words k 0) (block_list words (k + 1)) both.0 (judged.here.0 both.1)
-          ],
-         λ all. step.1 (inr (All-head (λ entry. entry < lines) (get_or words k 0) (block_list words (k + 1)) all, judged.here.1 (All-tail (λ entry. entry < lines) (get_or words k 0) (block_list words (k + 1)) all))))
-      ] in
+        ],
+        λ all. step.1 (inr (All-head (λ entry. entry < lines) (get_or words k 0) (block_list words (k + 1)) all, judged.here.1 (All-tail (λ entry. entry < lines) (get_or words k 0) (block_list words (k + 1)) all))),
+      )
+    ] in
     let within : k < length sound = omega (arith, judged.len, below) in
     record {
       len = length-set sound k new ∙ judged.len;
@@ -43,7 +44,7 @@ judged_back words lines sound rest new k judged below step =
       each = λ j from inside. elim (cases_eq j k) [
         | inl same ↦ rw (same, get_or-set_same sound k new false within) here
         | inr apart ↦ rw (get_or-set_other sound k j new false apart) (judged.each j (omega (arith, from, apart)) inside)
-        ];
+      ];
     }
 
 -- the whole of the words is judged

@@ -8,7 +8,7 @@ use Rattle.map_geometry.specs.Lists.{Lists, nth_cell}
 use Rattle.map_geometry.specs.Nodes.{WalksEnd}
 use Rattle.map_geometry.specs.Blocks.{HasBlockShape}
 use Rattle.map_geometry.specs.Conditions.{node_conditions, no_loop, node_checks, line_checks, subsector_checks, block_checks, conditions}
-use Rattle.map_load.specs.Search.{HaveChildren, child_conditions}
+use Rattle.map_load.specs.Steps.{HaveChildren, child_conditions}
 
 -- where no condition is false, the first holds, and none behind it is false
 first_holds : {P Q : Type 0} {fault : LevelFault} → (P × Q) ⊎ ((P → ⊥) × (None ≡ Some fault)) → P × Q

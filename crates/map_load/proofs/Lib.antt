@@ -1,3 +1,4 @@
 pub mod Ways
 pub mod BlockLists
 pub mod Groups
+pub mod Derived

@@ -8,7 +8,7 @@ use Rattle.std.proofs.lemmas.List.Sums.{sum_by-cons, sum_by-set}
 use Rattle.map_geometry.specs.declared.records.Node.{Node}
 use Rattle.map_geometry.specs.Lists.{no_node}
 use Rattle.map_geometry.specs.Nodes.{IsBelow, IsWalk, WalksEnd}
-use Rattle.map_load.specs.Search.{IsSettled}
+use Rattle.map_load.specs.Steps.{IsSettled}
 
 -- how many nodes are settled
 abbrev pub one : Bool → ℕ
@@ -22,7 +22,6 @@ settled-le : (done : List Bool) → settled done ≤ length done
 settled-le [] = omega arith
 settled-le (true ∷ done) = omega (arith, settled-le done, sum_by-cons one true done)
 settled-le (false ∷ done) = omega (arith, settled-le done, sum_by-cons one false done)
-
 
 -- what the search keeps
 pub record Searches (nodes : List Node) (done : List Bool) (path : List ℕ) : Type 0 where
@@ -40,7 +39,7 @@ none_settled : (n d : ℕ) → get_or (replicate n false) d false ≡ false
 none_settled n d = elim (cases_lt d n) [
   | inl below ↦ get_or-replicate n d false false below
   | inr above ↦ get_or_past (replicate n false) d false (omega (arith, length-replicate n false))
-  ]
+]
 
 pub searches_begin : (nodes : List Node) → 0 < length nodes → Searches nodes (replicate (length nodes) false) ((length nodes - 1) ∷ [])
 searches_begin nodes some = record {
@@ -71,10 +70,10 @@ pushed_each nodes path child each below p within =
     rw (pushed_at path child p here) (elim (cases_lt (p + 1) (length path)) [
       | inl inside ↦ rw (pushed_at path child (p + 1) inside) (each p inside)
       | inr outside ↦
-        let top : p ≡ length path - 1 = omega (arith, here, outside) in
-        let next : length path ≡ p + 1 = omega (arith, here, outside) in
-        rw (get_or_push path child 0 (p + 1) next, top) below
-      ])
+          let top : p ≡ length path - 1 = omega (arith, here, outside) in
+          let next : length path ≡ p + 1 = omega (arith, here, outside) in
+          rw (get_or_push path child 0 (p + 1) next, top) below
+    ])
 
 pushed_unsettled : (done : List Bool) (path : List ℕ) (child : ℕ) → ((p : ℕ) → p < length path → get_or done (get_or path p 0) false ≡ false)
     → get_or done child false ≡ false → (p : ℕ) → p < length (path ++ child ∷ []) → get_or done (get_or (path ++ child ∷ []) p 0) false ≡ false
@@ -83,8 +82,8 @@ pushed_unsettled done path child unsettled new p within =
     elim (cases_lt p (length path)) [
       | inl inside ↦ rw (pushed_at path child p inside) (unsettled p inside)
       | inr outside ↦
-        let next : length path ≡ p = omega (arith, count, within, outside) in
-        rw (get_or_push path child 0 p next) new
+          let next : length path ≡ p = omega (arith, count, within, outside) in
+          rw (get_or_push path child 0 p next) new
     ]
 
 pushed_within : (nodes : List Node) (path : List ℕ) (child : ℕ) → ((p : ℕ) → p < length path → get_or path p 0 < length nodes) → child < length nodes
@@ -94,8 +93,8 @@ pushed_within nodes path child within there p below =
     elim (cases_lt p (length path)) [
       | inl inside ↦ rw (pushed_at path child p inside) (within p inside)
       | inr outside ↦
-        let next : length path ≡ p = omega (arith, count, below, outside) in
-        rw (get_or_push path child 0 p next) there
+          let next : length path ≡ p = omega (arith, count, below, outside) in
+          rw (get_or_push path child 0 p next) there
     ]
 
 -- an unsettled child of the last node of the way
@@ -128,7 +127,7 @@ short_after nodes done at short left right (next ∷ steps) walk =
     let is : get_or done next false ≡ true = elim walk.0.named [
       | inl named ↦ rw named at left walk.0.node
       | inr named ↦ rw named at right walk.0.node
-      ] in
+    ] in
     omega (arith, short next is steps walk.1)
 
 -- The last node of the way is settled, and the way goes back by one. It stands nowhere else on the way, since from
@@ -142,29 +141,31 @@ searches_back nodes done path at s within left right =
     let new : get_or done at false ≡ false = rw (get_or_push path at 0 (length path) refl) at (s.unsettled (length path) (omega (arith, count))) in
     let more = settled-set done at there new in
     let apart : (p : ℕ) → p < length path → get_or path p 0 ≡ at → ⊥ = λ p below same.
-      let step = s.each p (omega (arith, count, below)) in
-      let from_at : IsBelow nodes at (get_or (path ++ at ∷ []) (p + 1) 0) = rw (pushed_at path at p below, same) at step in
-      let is : get_or done (get_or (path ++ at ∷ []) (p + 1) 0) false ≡ true = elim from_at.named [
-        | inl named ↦ rw named at left from_at.node
-        | inr named ↦ rw named at right from_at.node
-        ] in
-      false≢true (sym (s.unsettled (p + 1) (omega (arith, count, below))) ∙ is) in
-    (record {
-      len = length-set done at true ∙ s.len;
-      short = λ d is steps walk. rw more (elim (cases_eq d at) [
-        | inl same ↦ short_after nodes done at s.short left right steps (rw same at walk)
-        | inr other ↦ let before = s.short d (sym (get_or-set_other done at d true false other) ∙ is) steps walk in omega (arith, before)
+    let step = s.each p (omega (arith, count, below)) in
+    let from_at : IsBelow nodes at (get_or (path ++ at ∷ []) (p + 1) 0) = rw (pushed_at path at p below, same) at step in
+    let is : get_or done (get_or (path ++ at ∷ []) (p + 1) 0) false ≡ true = elim from_at.named [
+      | inl named ↦ rw named at left from_at.node
+      | inr named ↦ rw named at right from_at.node
+    ] in
+    false≢true (sym (s.unsettled (p + 1) (omega (arith, count, below))) ∙ is) in (
+      record {
+        len = length-set done at true ∙ s.len;
+        short = λ d is steps walk. rw more (elim (cases_eq d at) [
+          | inl same ↦ short_after nodes done at s.short left right steps (rw same at walk)
+          | inr other ↦ let before = s.short d (sym (get_or-set_other done at d true false other) ∙ is) steps walk in omega (arith, before)
         ]);
-      first = λ some. sym (pushed_at path at 0 some) ∙ s.first (omega (arith, count));
-      within = λ p below. rw (pushed_at path at p below) at (s.within p (omega (arith, count, below)));
-      each = λ p inside.
-        let step = s.each p (omega (arith, count, inside)) in
-        rw (pushed_at path at p (omega (arith, inside)), pushed_at path at (p + 1) inside) at step;
-      unsettled = λ p below. get_or-set_other done at (get_or path p 0) true false (apart p below) ∙ (rw (pushed_at path at p below) at (s.unsettled p (omega (arith, count, below))));
-      last = λ empty.
-        let is : at ≡ length nodes - 1 = sym (get_or_push path at 0 0 empty) ∙ s.first (omega (arith, count)) in
-        rw (← is) (get_or-set_same done at true false there);
-    }, more)
+        first = λ some. sym (pushed_at path at 0 some) ∙ s.first (omega (arith, count));
+        within = λ p below. rw (pushed_at path at p below) at (s.within p (omega (arith, count, below)));
+        each = λ p inside.
+            let step = s.each p (omega (arith, count, inside)) in
+            rw (pushed_at path at p (omega (arith, inside)), pushed_at path at (p + 1) inside) at step;
+        unsettled = λ p below. get_or-set_other done at (get_or path p 0) true false (apart p below) ∙ (rw (pushed_at path at p below) at (s.unsettled p (omega (arith, count, below))));
+        last = λ empty.
+            let is : at ≡ length nodes - 1 = sym (get_or_push path at 0 0 empty) ∙ s.first (omega (arith, count)) in
+            rw (← is) (get_or-set_same done at true false there);
+      },
+      more,
+    )
 
 -- ---- the end
 
@@ -172,17 +173,19 @@ searches_back nodes done path at s within left right =
 pub searches_end : (nodes : List Node) (done : List Bool) (path : List ℕ) → Searches nodes done path → length path ≡ 0 → WalksEnd nodes
 searches_end nodes done path s empty = record {
   shorter = λ some steps walk.
-    let short = s.short (length nodes - 1) (s.last empty) steps walk in
-    omega (arith, short, settled-le done, s.len)
+      let short = s.short (length nodes - 1) (s.last empty) steps walk in
+      omega (arith, short, settled-le done, s.len);
 }
 
 walk_of : (nodes : List Node) (x : ℕ) (xs : List ℕ) → ((p : ℕ) → p + 1 < length (x ∷ xs) → IsBelow nodes (get_or (x ∷ xs) p 0) (get_or (x ∷ xs) (p + 1) 0)) → IsWalk nodes x xs
 walk_of nodes x [] each = tt
-walk_of nodes x (y ∷ ys) each =
-    (each 0 (omega arith), walk_of nodes y ys (λ p below.
+walk_of nodes x (y ∷ ys) each = (
+  each 0 (omega arith),
+  walk_of nodes y ys (λ p below.
       let step = each (suc p) (omega (arith, below)) in
       let place : suc p + 1 ≡ suc (p + 1) = omega arith in
-      rw place at step))
+      rw place at step),
+)
 
 -- a way of more nodes than there are is a walk that does not end
 pub too_long : (nodes : List Node) (done : List Bool) (path : List ℕ) → Searches nodes done path → 0 < length nodes → length nodes < length path → WalksEnd nodes → ⊥

@@ -5,7 +5,7 @@ ghost use Rattle.first_fault.specs.FirstFault.{FirstFault};
 ghost use Rattle.map_geometry.specs.Blocks.{HasBlockShape, ReachesEnd, block_list, end_mark};
 ghost use Rattle.map_geometry.specs.Conditions.{block_checks, cell_conditions};
 ghost use Rattle.map_geometry.specs.Level.{lists_of};
-ghost use Rattle.map_load.specs.Search.{TellsSound, every_cell};
+ghost use Rattle.map_load.specs.Steps.{TellsSound, every_cell};
 
 use map_geometry::{LevelFault, LevelParts};
 use std::alloc::{AllocError, Global};
@@ -18,12 +18,10 @@ const END_MARK: u16 = 0xFFFF;
 
 /// The place of the last end mark.
 fn last_end(words: &[u16]) -> Option<usize>
-    ensures {
-        MatchOption result ((k : ℕ) → k < length words.now → slice_index words.now k ≢ end_mark)
-            (λ place. (place < length words.now)
-                × (slice_index words.now place ≡ end_mark)
-                × ((k : ℕ) → place < k → k < length words.now → slice_index words.now k ≢ end_mark))
-    }
+    ensures { MatchOption result ((k : ℕ) → k < length words.now → slice_index words.now k ≢ end_mark)
+        (λ place. (place < length words.now)
+        × (slice_index words.now place ≡ end_mark)
+        × ((k : ℕ) → place < k → k < length words.now → slice_index words.now k ≢ end_mark)) }
 {
     for k in (0..words.len()).rev() {
         if words[k] == END_MARK {
@@ -66,9 +64,7 @@ fn sound_lists(alloc: Global, words: &[u16], lines: usize) -> Result<Vec<bool>, 
 
 /// Whether the block map has its head, at least one block, the place of each block's list, and its end.
 fn has_shape(parts: &LevelParts) -> bool
-    ensures {
-        IsTrue result ↔ HasBlockShape (lists_of parts.now).words (lists_of parts.now).cells
-    }
+    ensures { IsTrue result ↔ HasBlockShape (lists_of parts.now).words (lists_of parts.now).cells }
 {
     let words = &parts.words;
     words.len() >= 4
@@ -82,9 +78,7 @@ fn has_shape(parts: &LevelParts) -> bool
 fn cell_fault(parts: &LevelParts, sound: &[bool], i: usize) -> Option<LevelFault>
     requires there { i < length (lists_of parts.now).cells }
     requires ends { All (ReachesEnd (lists_of parts.now).words) (lists_of parts.now).cells }
-    requires sound {
-        TellsSound (lists_of parts.now).words (length (lists_of parts.now).lines) sound.now
-    }
+    requires sound { TellsSound (lists_of parts.now).words (length (lists_of parts.now).lines) sound.now }
     ensures { FirstFault (cell_conditions (lists_of parts.now) i) result }
 {
     let offset = parts.cells[i] as usize;

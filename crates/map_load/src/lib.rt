@@ -3,6 +3,7 @@
 
 mod blocks;
 mod checks;
+mod level;
 mod lines;
 mod lumps;
 mod nodes;
@@ -10,3 +11,6 @@ mod reading;
 mod records;
 mod subsectors;
 mod walks;
+
+pub use level::load;
+pub use map_geometry::LevelFault;

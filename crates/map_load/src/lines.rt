@@ -10,6 +10,7 @@ use map_geometry::{LevelFault, LevelParts};
 
 /// The numbers of the lumps of lines and sides among a map's ten.
 const LINES: u8 = 2;
+
 const SIDES: u8 = 3;
 
 /// Whether a side is there.
@@ -22,10 +23,8 @@ fn has_side(parts: &LevelParts, side: u16) -> bool
 /// Whether the sector that a side faces is there.
 fn faces_sector(parts: &LevelParts, side: u16) -> bool
     requires { side < length (lists_of parts.now).sides }
-    ensures {
-        IsTrue result
-        ↔ (sector_of_side (lists_of parts.now).sides side < length (lists_of parts.now).sectors)
-    }
+    ensures { IsTrue result
+        ↔ (sector_of_side (lists_of parts.now).sides side < length (lists_of parts.now).sectors) }
 {
     usize::from(parts.sides[usize::from(side)].sector) < parts.sectors.len()
 }

@@ -5,7 +5,7 @@ ghost use Rattle.first_fault.specs.FirstFault.{FirstFault};
 ghost use Rattle.map_geometry.specs.Nodes.{IsChildIn};
 ghost use Rattle.map_geometry.specs.Level.{lists_of};
 ghost use Rattle.map_geometry.specs.Conditions.{node_checks, node_conditions};
-ghost use Rattle.map_load.specs.Search.{child_conditions};
+ghost use Rattle.map_load.specs.Steps.{child_conditions};
 
 use crate::walks::walks_end;
 use map_geometry::{LevelFault, LevelParts};
@@ -19,10 +19,8 @@ const SUBSECTOR: u16 = 0x8000;
 
 /// Whether a child is there.
 fn has_child(parts: &LevelParts, child: u16) -> bool
-    ensures {
-        IsTrue result
-        ↔ IsChildIn (length (lists_of parts.now).nodes) (length (lists_of parts.now).subsectors) child
-    }
+    ensures { IsTrue result
+        ↔ IsChildIn (length (lists_of parts.now).nodes) (length (lists_of parts.now).subsectors) child }
 {
     if child < SUBSECTOR {
         usize::from(child) < parts.nodes.len()

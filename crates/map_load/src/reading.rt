@@ -1,6 +1,7 @@
 //! All lists of a map.
 
-ghost use Rattle.std.specs.Prelude.{◌≡◌, IfOk, slice_index};
+ghost use Rattle.std.specs.Prelude.{◌≡◌, ◌*ℤ◌, pos, IfOk, slice_index};
+ghost use Rattle.map_geometry.specs.Derived.{signed_word};
 ghost use Rattle.map_geometry.specs.Level.{lists_of};
 ghost use Rattle.wad_lumps.specs.Map.{AreSpans};
 ghost use Rattle.map_load.specs.Spelled.{cells_of, spelled};
@@ -21,7 +22,19 @@ fn cells(alloc: Global, words: &[u16]) -> Result<Vec<u32>, AllocError>
     ensures { IfOk result (λ cells. cells.items ≡ cells_of words.now) }
 {
     let count = usize::from(head_word(words, 2)) * usize::from(head_word(words, 3));
-    words.iter().skip(4).take(count).map(|&word| u32::from(word)).collect(alloc)
+    words
+        .iter()
+        .skip(4)
+        .take(count)
+        .map(|&word| u32::from(word))
+        .collect(alloc)
+}
+
+/// One part of the block map's origin, in fixed point.
+fn origin(words: &[u16], i: usize) -> i32
+    ensures { result ≡ signed_word (slice_index words.now i) *ℤ pos 65536 }
+{
+    records::units(head_word(words, i).cast_signed())
 }
 
 /// All lists that a map's lumps spell.
@@ -44,8 +57,8 @@ pub fn parts(
     let sectors = lumps::sectors(alloc, bytes, spans[7])?;
     let words = lumps::words(alloc, bytes, spans[9])?;
     let cells = cells(alloc, &words)?;
-    let origin_x = records::units(head_word(&words, 0).cast_signed());
-    let origin_y = records::units(head_word(&words, 1).cast_signed());
+    let origin_x = origin(&words, 0);
+    let origin_y = origin(&words, 1);
     let width = u32::from(head_word(&words, 2));
     let height = u32::from(head_word(&words, 3));
     Ok(LevelParts {

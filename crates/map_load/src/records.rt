@@ -325,13 +325,7 @@ fn sector_of(lines: &[Line], sides: &[Side], seg: &Seg) -> u32
 
 /// A subsector with the sector that its first seg faces.
 #[tactic(auto, unfolding(crate::specs::Spelled::subsector_at))]
-pub fn subsector(
-    bytes: &[u8],
-    lines: &[Line],
-    sides: &[Side],
-    segs: &[Seg],
-    at: usize,
-) -> Subsector
+pub fn subsector(bytes: &[u8], lines: &[Line], sides: &[Side], segs: &[Seg], at: usize) -> Subsector
     requires { at + 4 ≤ length bytes.now }
     ensures { result ≡ subsector_at bytes.now lines.now sides.now segs.now at }
 {

@@ -10,6 +10,7 @@ use map_geometry::{LevelFault, LevelParts, Line};
 
 /// The numbers of the lumps of segs and subsectors among a map's ten.
 const SEGS: u8 = 5;
+
 const SUBSECTORS: u8 = 6;
 
 /// The side of a line that a seg names.

@@ -2,7 +2,7 @@
 
 ghost use Rattle.std.specs.Prelude.{◌≡◌, ◌↔◌, ℕ, ◌+◌, ◌<◌, Bool, false, length, slice_index_or, IsTrue, IfOk, MatchOption};
 ghost use Rattle.map_geometry.specs.Nodes.{IsBelow, WalksEnd};
-ghost use Rattle.map_load.specs.Search.{HaveChildren, IsSettled, node_of};
+ghost use Rattle.map_load.specs.Steps.{HaveChildren, IsSettled, node_of};
 
 use map_geometry::Node;
 use std::alloc::{AllocError, Global};
@@ -23,14 +23,12 @@ fn unsettled_child(nodes: &[Node], settled: &[bool], at: usize) -> Option<usize>
     requires there { at < length nodes.now }
     requires marks { length settled.now ≡ length nodes.now }
     requires children { HaveChildren nodes.now }
-    ensures {
-        MatchOption result
-            (IsSettled settled.now (node_of nodes.now at).child_0
-                × IsSettled settled.now (node_of nodes.now at).child_1)
-            (λ child. IsBelow nodes.now at child
-                × (child < length nodes.now)
-                × (slice_index_or settled.now child false ≡ false))
-    }
+    ensures { MatchOption result
+        (IsSettled settled.now (node_of nodes.now at).child_0
+        × IsSettled settled.now (node_of nodes.now at).child_1)
+        (λ child. IsBelow nodes.now at child
+        × (child < length nodes.now)
+        × (slice_index_or settled.now child false ≡ false)) }
 {
     let node = nodes[at];
     if is_unsettled(settled, node.child_0) {

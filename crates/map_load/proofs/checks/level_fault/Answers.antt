@@ -16,4 +16,4 @@ returns-in-Some-2 c = in_nodes (lists_of c.args.parts.now) c.in-Some-2.fault c.i
 
 pub returns : goal.returns
 returns c = IfOk-weaker c.blocks_fault.result (FirstFault (block_checks (lists_of c.args.parts.now))) (FirstFault (conditions (lists_of c.args.parts.now)))
-  (λ outcome p. in_blocks (lists_of c.args.parts.now) outcome c.in_default.ensures c.in_default-subsectors_fault.ensures (rw c.in_default-2.is at c.in_ok-fault.ensures) p) c.blocks_fault.ensures
+    (λ outcome p. in_blocks (lists_of c.args.parts.now) outcome c.in_default.ensures c.in_default-subsectors_fault.ensures (rw c.in_default-2.is at c.in_ok-fault.ensures) p) c.blocks_fault.ensures

@@ -1,9 +1,10 @@
--- The search for a loop among the nodes.
+-- What one step of reading a level tells the next. No public contract cites these.
 use Rattle.std.specs.Prelude.{◌≡◌, ◌↔◌, ℕ, ◌<◌, Bool, true, false, IsTrue, List, length, slice_index_or, All}
 use Rattle.map_geometry.specs.declared.records.Node.{Node}
 use Rattle.first_fault.specs.FirstFault.{Condition, for_each}
 use Rattle.map_geometry.specs.declared.fault.LevelFault.{LevelFault}
 use Rattle.map_geometry.specs.Lists.{Lists, no_node}
+use Rattle.map_geometry.specs.Derived.{IsLineOf, IsSubsectorOf, IsGridOf}
 use Rattle.map_geometry.specs.Blocks.{block_list}
 use Rattle.map_geometry.specs.Conditions.{node_conditions, cell_conditions}
 
@@ -34,3 +35,9 @@ pub record TellsSound (words : List ℕ) (lines : ℕ) (sound : List Bool) : Typ
 -- what has to hold of the blocks' lists
 abbrev pub every_cell : Lists → List (Condition LevelFault)
 every_cell l = for_each (length l.cells) (cell_conditions l)
+
+-- each field that follows from other records is what follows
+pub record IsDerived (l : Lists) : Type 0 where
+  pub lines : All (IsLineOf l.vertices l.sides) l.lines
+  pub subsectors : All (IsSubsectorOf l.lines l.sides l.segs) l.subsectors
+  pub grid : IsGridOf l.words l
