@@ -1,4 +1,5 @@
-//! Whether the lists of a block map end, and whether their entries are lines, in time linear in the words.
+//! Whether the lists of a block map end, and whether their entries are lines, in time linear in the
+//! words.
 
 ghost use Rattle.std.specs.Prelude.{◌≡◌, ◌≢◌, ◌↔◌, ◌⊎◌, ℕ, ◌<◌, ◌≤◌, length, slice_index, All, IsTrue, IfOk, MatchOption};
 ghost use Rattle.first_fault.specs.FirstFault.{FirstFault};
@@ -18,7 +19,8 @@ const END_MARK: u16 = 0xFFFF;
 
 /// The place of the last end mark.
 fn last_end(words: &[u16]) -> Option<usize>
-    ensures { MatchOption result ((k : ℕ) → k < length words.now → slice_index words.now k ≢ end_mark)
+    ensures { MatchOption result
+        ((k : ℕ) → k < length words.now → slice_index words.now k ≢ end_mark)
         (λ place. (place < length words.now)
         × (slice_index words.now place ≡ end_mark)
         × ((k : ℕ) → place < k → k < length words.now → slice_index words.now k ≢ end_mark)) }
@@ -31,8 +33,8 @@ fn last_end(words: &[u16]) -> Option<usize>
     None
 }
 
-/// Whether each list that begins at one of these places ends. It does where it begins at or before the last end
-/// mark.
+/// Whether each list that begins at one of these places ends. It does where it begins at or before
+/// the last end mark.
 fn all_end(words: &[u16], cells: &[u32]) -> bool
     ensures { IsTrue result ↔ All (ReachesEnd words.now) cells.now }
 {
@@ -42,14 +44,16 @@ fn all_end(words: &[u16], cells: &[u32]) -> bool
     }
 }
 
-/// Whether a list is sound that begins with this word, where `rest` says whether the list behind it is.
+/// Whether a list is sound that begins with this word, where `rest` says whether the list behind it
+/// is.
 fn is_sound(word: u16, lines: usize, rest: bool) -> bool
     ensures { IsTrue result ↔ ((word ≡ end_mark) ⊎ ((word < lines) × IsTrue rest)) }
 {
     word == END_MARK || (usize::from(word) < lines && rest)
 }
 
-/// For each place of the words, whether the list that begins there has numbers of lines as its entries.
+/// For each place of the words, whether the list that begins there has numbers of lines as its
+/// entries.
 fn sound_lists(alloc: Global, words: &[u16], lines: usize) -> Result<Vec<bool>, AllocError>
     ensures { IfOk result (λ sound. TellsSound words.now lines sound.items) }
 {
@@ -62,7 +66,8 @@ fn sound_lists(alloc: Global, words: &[u16], lines: usize) -> Result<Vec<bool>, 
     Ok(sound)
 }
 
-/// Whether the block map has its head, at least one block, the place of each block's list, and its end.
+/// Whether the block map has its head, at least one block, the place of each block's list, and its
+/// end.
 fn has_shape(parts: &LevelParts) -> bool
     ensures { IsTrue result ↔ HasBlockShape (lists_of parts.now).words (lists_of parts.now).cells }
 {
@@ -78,7 +83,8 @@ fn has_shape(parts: &LevelParts) -> bool
 fn cell_fault(parts: &LevelParts, sound: &[bool], i: usize) -> Option<LevelFault>
     requires there { i < length (lists_of parts.now).cells }
     requires ends { All (ReachesEnd (lists_of parts.now).words) (lists_of parts.now).cells }
-    requires sound { TellsSound (lists_of parts.now).words (length (lists_of parts.now).lines) sound.now }
+    requires sound { TellsSound (lists_of parts.now).words (length (lists_of parts.now).lines)
+        sound.now }
     ensures { FirstFault (cell_conditions (lists_of parts.now) i) result }
 {
     let offset = parts.cells[i] as usize;

@@ -49,7 +49,8 @@ fn load_lumps(
 ) -> Result<Level, LevelFault>
     requires { AreSpans bytes.now spans.now }
     ensures level { IfOk result (λ level. level ≡ spelled bytes.now spans.now episode_form) }
-    ensures sound { OnOk result (FirstFault (conditions (spelled bytes.now spans.now episode_form)) None) }
+    ensures sound { OnOk result
+        (FirstFault (conditions (spelled bytes.now spans.now episode_form)) None) }
     ensures fault { IfErr result (λ fault. (fault ≡ Memory)
         ⊎ FirstFault (conditions (spelled bytes.now spans.now episode_form)) (Some fault)) }
 {
@@ -59,9 +60,9 @@ fn load_lumps(
 
 /// The level of a map, as its lumps in the file spell it, or its first fault.
 ///
-/// The map must be of the original game's form, and so must its nodes. Then the level's lists are judged, in
-/// the order of `conditions`: each reference of lines, subsectors and nodes, that no node which the last one
-/// reaches stands below itself, and the block map.
+/// The map must be of the original game's form, and so must its nodes. Then the level's lists are
+/// judged, in the order of `conditions`: each reference of lines, subsectors and nodes, that no
+/// node which the last one reaches stands below itself, and the block map.
 #[tactic(auto, unfolding(crate::specs::Load::level_conditions))]
 pub fn load(alloc: Global, wad: &Wad, spans: &MapSpans) -> Result<Level, LevelFault>
     requires { AreSpans wad.now spans.now.spans.items }

@@ -53,8 +53,9 @@ fn line_fault(parts: &LevelParts, i: usize) -> Option<LevelFault>
             if !has_side(parts, back_side) {
                 return Some(LevelFault::LevelRef(LINES, i));
             }
-            if !faces_sector(parts, line.front_side) {
-                return Some(LevelFault::LevelRef(SIDES, usize::from(line.front_side)));
+            let front_side = line.front_side;
+            if !faces_sector(parts, front_side) {
+                return Some(LevelFault::LevelRef(SIDES, usize::from(front_side)));
             }
             if !faces_sector(parts, back_side) {
                 return Some(LevelFault::LevelRef(SIDES, usize::from(back_side)));

@@ -1,5 +1,5 @@
-//! The lists that a map's lumps spell. A lump is a span of the file: its place, and its length in bytes. What is
-//! left behind its last whole record is ignored.
+//! The lists that a map's lumps spell. A lump is a span of the file: its place, and its length in
+//! bytes. What is left behind its last whole record is ignored.
 
 ghost use Rattle.std.specs.Prelude.{◌≡◌, IfOk};
 ghost use Rattle.wad_lumps.specs.Spelled.{word_at};

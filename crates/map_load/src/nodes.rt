@@ -20,7 +20,8 @@ const SUBSECTOR: u16 = 0x8000;
 /// Whether a child is there.
 fn has_child(parts: &LevelParts, child: u16) -> bool
     ensures { IsTrue result
-        ↔ IsChildIn (length (lists_of parts.now).nodes) (length (lists_of parts.now).subsectors) child }
+        ↔ IsChildIn (length (lists_of parts.now).nodes) (length (lists_of parts.now).subsectors)
+        child }
 {
     if child < SUBSECTOR {
         usize::from(child) < parts.nodes.len()

@@ -1,4 +1,5 @@
-//! The first fault of the subsectors: none at all, or one without a seg that lies on a side that is there.
+//! The first fault of the subsectors: none at all, or one without a seg that lies on a side that is
+//! there.
 
 ghost use Rattle.std.specs.Prelude.{◌≡◌, ◌<◌, length};
 ghost use Rattle.first_fault.specs.FirstFault.{FirstFault};

@@ -42,8 +42,9 @@ fn unsettled_child(nodes: &[Node], settled: &[bool], at: usize) -> Option<usize>
 
 /// Whether no way down from the last node passes more nodes than there are.
 ///
-/// The search goes down to a child that is not settled, and back from a node whose children are. Each node
-/// is settled once, and a way of more nodes than there are has a loop, so it takes time linear in the nodes.
+/// The search goes down to a child that is not settled, and back from a node whose children are.
+/// Each node is settled once, and a way of more nodes than there are has a loop, so it takes time
+/// linear in the nodes.
 pub fn walks_end(alloc: Global, nodes: &[Node]) -> Result<bool, AllocError>
     requires { HaveChildren nodes.now }
     ensures { IfOk result (λ ends. IsTrue ends ↔ WalksEnd nodes.now) }

@@ -8,13 +8,15 @@ use std::alloc::{AllocError, AllocFailed};
 /// Why a WAD file, or a map in it, is refused.
 #[derive(Clone, Copy, Debug, PartialEq, Eq)]
 pub enum WadFault {
-    /// Fewer than twelve bytes, letters other than `IWAD` and `PWAD`, or a negative number in the head.
+    /// Fewer than twelve bytes, letters other than `IWAD` and `PWAD`, or a negative number in the
+    /// head.
     WadHead,
     /// The directory does not lie in the file.
     WadDir,
     /// No entry has a name of the map.
     NoMap,
-    /// This one of a map's ten lumps, from 1 to 10, is absent or does not lie in the file. It is the first.
+    /// This one of a map's ten lumps, from 1 to 10, is absent or does not lie in the file. It is
+    /// the first.
     LumpRange(u32),
     /// No memory is left.
     Memory,

@@ -7,8 +7,9 @@ ghost use Rattle.wad_lumps.specs.Map.{IsMap, map_conditions};
 ghost use Rattle.wad_lumps.specs.declared.fault.WadFault.{WadFault};
 ghost use Rattle.wad_lumps.specs.declared.map.MapSpans.{MapSpans};
 
-/// The bytes, the episode and the map determine what `Wad::read` and `Wad::map` answer, unless memory
-/// runs out: there is one first fault of a file, one of a map, and one set of lumps of a map.
+/// The bytes, the episode and the map determine what `Wad::read` and `Wad::map` answer, unless
+/// memory runs out: there is one first fault of a file, one of a map, and one set of lumps of a
+/// map.
 pub fn one_answer()
     ensures file { (w : List ℕ) (a b : Option WadFault) → FirstFault (file_conditions w) a
         → FirstFault (file_conditions w) b → a ≡ b }

@@ -15,8 +15,9 @@ use std::alloc::Global;
 pub struct MapSpans {
     /// The place of the label's entry in the directory, from 0.
     pub label: u32,
-    /// The place in the file and the length in bytes of the ten lumps behind the label, in their order:
-    /// THINGS, LINEDEFS, SIDEDEFS, VERTEXES, SEGS, SSECTORS, NODES, SECTORS, REJECT, BLOCKMAP.
+    /// The place in the file and the length in bytes of the ten lumps behind the label, in their
+    /// order: THINGS, LINEDEFS, SIDEDEFS, VERTEXES, SEGS, SSECTORS, NODES, SECTORS, REJECT,
+    /// BLOCKMAP.
     pub spans: Vec<(usize, usize)>,
     /// Whether the label is of the form `ExMy`.
     pub episode_form: bool,

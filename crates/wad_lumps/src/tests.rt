@@ -102,8 +102,8 @@ fn changed(alloc: Global, at: usize, to: i32) -> Result<Vec<u8>, Fail> {
 
 #[test]
 fn numbers(rt: HostRuntime) -> Result<(), Fail> {
-    // The file has 188 bytes: twelve of head and eleven entries, the label's first. The place of lump e
-    // stands at 12 + 16 * e, its length four bytes on.
+    // The file has 188 bytes: twelve of head and eleven entries, the label's first. The place of
+    // lump e stands at 12 + 16 * e, its length four bytes on.
     let head = Err(WadFault::WadHead);
     let directory = Err(WadFault::WadDir);
     let cases = [

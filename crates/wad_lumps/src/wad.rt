@@ -49,9 +49,9 @@ impl Wad {
         &self.bytes
     }
 
-    /// Finds a map's label and its ten lumps. The label is the last entry that is named `MAPnn`, with the
-    /// two digits of the map, or where there is none and the map is at most 9, the last that is named
-    /// `ExMy`. The lumps are the ten entries behind it, whatever their names.
+    /// Finds a map's label and its ten lumps. The label is the last entry that is named `MAPnn`,
+    /// with the two digits of the map, or where there is none and the map is at most 9, the last
+    /// that is named `ExMy`. The lumps are the ten entries behind it, whatever their names.
     pub fn map(&self, alloc: Global, episode: u8, map: u8) -> Result<MapSpans, WadFault>
         requires first_episode { 1 ≤ episode }
         requires last_episode { episode ≤ 9 }
