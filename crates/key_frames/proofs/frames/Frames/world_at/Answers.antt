@@ -1,0 +1,10 @@
+use Rattle.std.proofs.Common.{arith, ap, length}
+use Rattle.std.proofs.lemmas.Result.{on_ok_weaker}
+use Rattle.key_frames.proofs.Kept.{raised_on}
+use Rattle.key_frames.proofs.frames.Frames.world_at.Goals as goal
+
+pub returns-clause-tics : goal.returns-clause-tics
+returns-clause-tics g c =
+    let some = c.requires.belong.opened in
+    let kept = ap length c.self.view_is in
+    on_ok_weaker c.world_from.result (λ is. raised_on c.args.steps.now.tics c.extend.new.steps.tics c.world_from.new.steps.tics _ _ _ c.in_ok-extend.ensures.tics is (omega arith)) c.world_from.ensures.tics
