@@ -8,7 +8,7 @@ use Rattle.doom_edge.specs.Counts.{raised, raised_from}
 use Rattle.lmp_codec.specs.declared.input.Tic.{Tic}
 use Rattle.game_trait.specs.declared.game.Game.{Ghosts}
 use Rattle.game_trait.specs.Replay.{after_all, replay, IsReplay}
-use Rattle.key_frames.specs.Frames.{frame_tics, reach, AreFrames}
+use Rattle.key_frames.specs.Frames.{frame_tics, reach, not_past, AreFrames}
 
 -- what is read of a list after a push
 get_push : {X : Type 0} (xs : List X) (x : X) (k : ℕ) (v : X) → slice_get (xs ++ x ∷ []) k ≡ Some v → (slice_get xs k ≡ Some v) ⊎ ((k ≡ length xs) × (x ≡ v))
@@ -64,7 +64,7 @@ frames_push rules game tics frames frame n len are inside next =
     }
 
 -- frames that an edit leaves
-pub frames_cut : {G W : Type 0} (rules : Ghosts G W) (game : G) (tics other : List Tic) (frames : List W) (t : ℕ) → AreFrames rules game tics frames → take t tics ≡ take t other → t ≤ length other → AreFrames rules game other (take (t / frame_tics + 1) frames)
+pub frames_cut : {G W : Type 0} (rules : Ghosts G W) (game : G) (tics other : List Tic) (frames : List W) (t : ℕ) → AreFrames rules game tics frames → take t tics ≡ take t other → t ≤ length other → AreFrames rules game other (not_past frames t)
 frames_cut rules game tics other frames t are same inside =
     let opened = are.opened in
     record {

@@ -1,6 +1,6 @@
 -- Worlds that are kept along the replay of a list of tics, one every so many tics, so that a later replay can go on
 -- from one of them.
-use Rattle.std.specs.Prelude.{◌≡◌, ℕ, ◌-◌, ◌*◌, ◌/◌, ◌<◌, ◌≤◌, min, List, length, take, slice_get, Some}
+use Rattle.std.specs.Prelude.{◌≡◌, ℕ, ◌+◌, ◌-◌, ◌*◌, ◌/◌, ◌<◌, ◌≤◌, min, List, length, take, slice_get, Some}
 use Rattle.lmp_codec.specs.declared.input.Tic.{Tic}
 use Rattle.game_trait.specs.declared.game.Game.{Ghosts}
 use Rattle.game_trait.specs.Replay.{IsReplay}
@@ -20,6 +20,10 @@ reach frames = frame_tics * (length frames - 1)
 -- the tic of the greatest frame that is kept and not above this tic
 abbrev pub frame_below : {W : Type 0} → List W → ℕ → ℕ
 frame_below frames tic = min (reach frames) (frame_tic tic)
+
+-- the frames that are not past this tic
+abbrev pub not_past : {W : Type 0} → List W → ℕ → List W
+not_past frames tic = take (tic / frame_tics + 1) frames
 
 -- These are the frames of a game along these tics, from the world before the first tic on: each is the plain replay of
 -- all tics before it.

@@ -2,7 +2,7 @@ ghost use Rattle.std.specs.Prelude.{◌≡◌, ◌+◌, ◌-◌, ◌/◌, ◌<�
 ghost use Rattle.doom_edge.specs.Counts.{raised};
 ghost use Rattle.lmp_codec.specs.declared.input.Tic.{Tic};
 ghost use Rattle.game_trait.specs.Replay.{IsReplay};
-ghost use Rattle.key_frames.specs.Frames.{frame_tics, frame_tic, reach, frame_below, AreFrames};
+ghost use Rattle.key_frames.specs.Frames.{frame_tic, reach, frame_below, not_past, AreFrames};
 
 use crate::play::{FRAME_TICS, extend, world_from};
 use doom_edge::{Memory, Steps};
@@ -78,7 +78,7 @@ impl<G: Game> Frames<G> {
 
     /// Drops the frames past `t`, and no other. Those that are left belong to all tics that begin with the same `t`.
     pub fn cut(&mut self, t: u32)
-        ensures left { self.new ≡ take (t / frame_tics + 1) self.old }
+        ensures left { self.new ≡ not_past self.old t }
         ensures reach { reach self.new ≡ frame_below self.old t }
         ensures belong { (game : G) (tics other : List Tic) → AreFrames G.Game game tics self.old → take t tics ≡ take t other → t ≤ length other → AreFrames G.Game game other self.new }
     {
