@@ -1,2 +1,0 @@
-pub mod Frames
-pub use Rattle.game_trait.specs.Replay
