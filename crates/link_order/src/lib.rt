@@ -1,0 +1,8 @@
+//! The order in which things were linked into the blocks of a level, the last linked first.
+#![tactic(auto)]
+
+mod linked;
+mod order;
+
+pub use linked::Linked;
+pub use order::LinkOrder;
