@@ -1,5 +1,5 @@
 -- The order in which things were linked.
-use Rattle.std.specs.Prelude.{ℕ, Bool, false, not, ◌==◌, List, ◌∷◌, Option, filter, map}
+use Rattle.std.specs.Prelude.{ℕ, Bool, false, not, ◌==◌, ◌<◌, List, ◌∷◌, Option, filter, map, IfSome}
 use Rattle.std.specs.Option.{option_map_or}
 use Rattle.link_order.specs.declared.linked.Linked.{Linked}
 
@@ -25,3 +25,7 @@ stands_in block linked = option_map_or (λ b. b == block) linked.block false
 -- the things of a block, in the order of linking
 abbrev pub things_in : ℕ → List Linked → List ℕ
 things_in block order = map (λ linked. linked.thing) (filter (stands_in block) order)
+
+-- the block, if there is one, is one of so many
+abbrev pub IsWithin : ℕ → Linked → Type 0
+IsWithin blocks linked = IfSome linked.block (λ b. b < blocks)

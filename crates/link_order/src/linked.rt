@@ -11,6 +11,7 @@ pub struct Linked {
 impl Linked {
     ghost use Rattle.std.specs.Prelude.{◌≡◌};
     ghost use Rattle.link_order.specs.Links.{stands_in, is_other};
+    ghost use Rattle.link_order.specs.Parts.{is_fresh};
 
     /// Whether it stands in this block.
     pub fn stands_in(&self, block: u32) -> bool
@@ -20,5 +21,19 @@ impl Linked {
             Some(own) => own == block,
             None => false,
         }
+    }
+
+    // Whether it is another thing.
+    pub(crate) fn is_other(&self, thing: u32) -> bool
+        ensures { result ≡ is_other thing self.now }
+    {
+        self.thing != thing
+    }
+
+    // Whether it is a thing of none of the latest links.
+    pub(crate) fn is_fresh(&self, recent: &[Linked]) -> bool
+        ensures { result ≡ is_fresh recent.now self.now }
+    {
+        recent.iter().all(|own| self.is_other(own.thing))
     }
 }

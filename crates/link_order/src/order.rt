@@ -1,29 +1,38 @@
 // The order of linking.
-ghost use Rattle.std.specs.Prelude.{◌≡◌, ◌<◌, [], OnOk, IfOk, IfSome};
+ghost use Rattle.std.specs.Prelude.{◌≡◌, ◌++◌, ◌<◌, [], OnOk, IfOk, IfSome};
 ghost use Rattle.link_order.specs.Links.{linked_first, things_in};
 
+use crate::base::Base;
 use crate::linked::Linked;
+use crate::recent::Recent;
 use doom_edge::Memory;
 use std::alloc::Global;
 use std::marker::Model;
+use std::sync::Arc;
 
 /// The things of a level in the order in which they were linked, the last linked first and each once. The
 /// number of the level's blocks is fixed when the order is made. How many links may still be made without
 /// memory is its room.
+///
+/// The order is a base, which forks share and nothing changes, and beside it the links since. Where those
+/// are many a new base is made.
 #[derive(Drop)]
 pub struct LinkOrder {
-    entries: Vec<Linked>,
-    blocks: u32,
+    base: Arc<Base>,
+    recent: Recent,
 }
 
 impl Model for LinkOrder {
-    ghost use Rattle.std.specs.Prelude.{◌-◌, vec_len};
-    ghost use Rattle.std.specs.Vec.{vec_capacity};
-    ghost use Rattle.link_order.specs.Links.{Links};
+    ghost use Rattle.std.specs.Prelude.{◌-◌, length, All};
+    ghost use Rattle.std.specs.Arc.{arc_value};
+    ghost use Rattle.link_order.specs.Links.{Links, IsWithin};
+    ghost use Rattle.link_order.specs.Parts.{order_of};
 
     ghost Value = { Links };
 
-    ghost view = { λ a. record { order = a.entries.items; room = vec_capacity a.entries - vec_len a.entries; blocks = a.blocks } };
+    ghost view = { λ a. record { order = order_of a.recent (arc_value a.base).entries; room = 16 - length a.recent; blocks = (arc_value a.base).blocks } };
+
+    ghost invariant = { λ a. All (IsWithin (arc_value a.base).blocks) a.recent };
 }
 
 impl LinkOrder {
@@ -32,19 +41,26 @@ impl LinkOrder {
         ensures order { IfOk result (λ made. made.order ≡ []) }
         ensures blocks { IfOk result (λ made. made.blocks ≡ blocks) }
     {
+        let base = Base::new(alloc, Vec::new(alloc), blocks as usize)?;
+        let base = Arc::new(alloc, base)?;
         Ok(LinkOrder {
-            entries: Vec::new(alloc),
-            blocks,
+            base,
+            recent: Recent::new(),
         })
     }
 
     /// Sees to it that one more link may be made. On `Memory` all is as before.
-    pub fn make_room(&mut self, _alloc: Global) -> Result<(), Memory>
+    pub fn make_room(&mut self, alloc: Global) -> Result<(), Memory>
         ensures order { self.new.order ≡ self.old.order }
         ensures blocks { self.new.blocks ≡ self.old.blocks }
         ensures room { OnOk result (0 < self.new.room) }
     {
-        self.entries.reserve(1)?;
+        if self.recent.has_room() {
+            return Ok(());
+        }
+        let base = self.settled(alloc)?;
+        self.base = Arc::new(alloc, base)?;
+        self.recent = Recent::new();
         Ok(())
     }
 
@@ -56,8 +72,7 @@ impl LinkOrder {
         ensures order { self.new.order ≡ linked_first thing block self.old.order }
         ensures blocks { self.new.blocks ≡ self.old.blocks }
     {
-        self.entries.retain(|linked| linked.thing != thing);
-        let _first = self.entries.insert(0, Linked { thing, block });
+        self.recent.put_first(Linked { thing, block });
     }
 
     /// Puts the things of a block, in the order of linking, in place of what was in `out`. After `Memory`
@@ -66,12 +81,9 @@ impl LinkOrder {
         ensures { OnOk result (out.new.items ≡ things_in block self.now.order) }
     {
         out.clear();
-        for linked in &self.entries {
-            if linked.stands_in(block) {
-                out.push(linked.thing)?;
-            }
-        }
-        Ok(())
+        let recent = self.recent.as_slice();
+        push_block(recent, block, out)?;
+        self.base.push_block(block, recent, out)
     }
 
     /// A second order with the same things. A later link in either leaves the other.
@@ -79,13 +91,34 @@ impl LinkOrder {
         ensures order { IfOk result (λ forked. forked.order ≡ self.now.order) }
         ensures blocks { IfOk result (λ forked. forked.blocks ≡ self.now.blocks) }
     {
-        let alloc = *self.entries.allocator();
-        let entries = Vec::from_slice(alloc, &self.entries)?;
+        let base = Arc::try_clone(&self.base)?;
         Ok(LinkOrder {
-            entries,
-            blocks: self.blocks,
+            base,
+            recent: self.recent.copy(),
         })
     }
+
+    // A base of the whole order.
+    fn settled(&self, alloc: Global) -> Result<Base, Memory>
+        ensures { IfOk result (λ base. base ≡ record { entries = self.now.order; blocks = self.now.blocks }) }
+    {
+        let recent = self.recent.as_slice();
+        let mut entries = Vec::from_slice(alloc, recent)?;
+        self.base.push_fresh(recent, &mut entries)?;
+        Base::new(alloc, entries, self.base.blocks())
+    }
+}
+
+// Appends the things of a block.
+fn push_block(entries: &[Linked], block: u32, out: &mut Vec<u32>) -> Result<(), Memory>
+    ensures { OnOk result (out.new.items ≡ out.old.items ++ things_in block entries.now) }
+{
+    for linked in entries {
+        if linked.stands_in(block) {
+            out.push(linked.thing)?;
+        }
+    }
+    Ok(())
 }
 
 // An order may move to another thread.

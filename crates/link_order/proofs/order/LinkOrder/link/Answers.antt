@@ -1,18 +1,12 @@
--- There is room by what is required, so the entry is put in front of those that were kept.
-use Rattle.std.proofs.Common.{◌≡◌, ◌<◌, ◌∷◌, ap, is_ok, true, arith, rules, vec_len, ◌∙◌}
-use Rattle.std.specs.Vec.{vec_capacity}
-use Rattle.std.proofs.lemmas.Fn.{filter_same}
-use Rattle.link_order.specs.declared.linked.Linked.{Linked}
-use Rattle.link_order.specs.Links.{is_other, linked_first, Links}
+use Rattle.std.proofs.Common.{◌<◌, subst, sym, IfSome}
+use Rattle.link_order.specs.Links.{Links}
+use Rattle.link_order.proofs.Orders.{order_of-linked, linked-within}
 use Rattle.link_order.proofs.order.LinkOrder.link.Goals as goal
 
+pub invariant_of-self : goal.invariant_of-self
+invariant_of-self c =
+    let within = subst (λ (links : Links). IfSome c.args.block (λ b. b < links.blocks)) (sym c.self.view_is) c.requires.within in
+    rw c.put_first.ensures (linked-within _ _ c.self.inside.recent within c.self.invariant)
+
 pub returns-clause-order : goal.returns-clause-order
-returns-clause-order c =
-    let kept = filter_same _ (is_other c.args.thing) _ (λ x b f' k. search rules) _ _ c.retain.ensures.filtered in
-    let had = ap (λ (links : Links). links.room) c.self.view_is in
-    let room : vec_len c.retain.new.self < vec_capacity c.retain.new.self =
-    omega (arith, had, c.requires.room, c.retain.ensures.bound, c.retain.ensures.capacity) in
-    let succeeds : is_ok c.insert-first.result ≡ true = c.insert-first.ensures.succeeds room in
-    let put = rw succeeds at c.insert-first.ensures.items in
-    let first : Linked = record { thing = c.args.thing; block = c.args.block } in
-    put ∙ ap (λ others. first ∷ others) kept ∙ ap (λ (links : Links). linked_first c.args.thing c.args.block links.order) c.self.view_is
+returns-clause-order c = rw (← c.self.view_is) (rw c.put_first.ensures (order_of-linked _ _ _))

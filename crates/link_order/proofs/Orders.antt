@@ -1,0 +1,114 @@
+-- Lists that are filtered, and the order in its two parts.
+use Rattle.std.proofs.Common.{◌≡◌, ℕ, ◌+◌, get_or, set, take, ◌<◌, ◌≤◌, Bool, true, false, not, cond, ◌&&◌, eqb, List, [], ◌∷◌, ◌++◌, length, map, refl, sym, ap, ◌∙◌, ⊎_elim, arith, All, Some, None}
+use Rattle.std.specs.List.{filter, list_all}
+use Rattle.std.proofs.lemmas.Bool.{cases_Bool, cond-true, cond-false, not-false, eqb-true, ne_eqb}
+use Rattle.std.proofs.lemmas.Grind.{common_steps}
+use Rattle.std.proofs.lemmas.List.{map-append, append-nil, take_more_set}
+use Rattle.std.proofs.lemmas.List.Elements.{filter-append, filter_agree, filter_more, All-append, All-cons, All-filter, All-head, All-tail}
+use Rattle.link_order.specs.declared.linked.Linked.{Linked}
+use Rattle.link_order.specs.Links.{is_other, stands_in, things_in, linked_first, IsWithin}
+use Rattle.link_order.specs.Parts.{is_fresh, order_of}
+
+-- two filters, one after the other, in either order
+pub filter_comm : {X : Type 0} (p q : X → Bool) (xs : List X) → filter p (filter q xs) ≡ filter q (filter p xs)
+filter_comm p q [] = refl
+filter_comm p q (x ∷ xs) = grind (arith, common_steps, filter_comm p q xs)
+
+-- two filters as one
+pub filter-filter : {X : Type 0} (p q : X → Bool) (xs : List X) → filter p (filter q xs) ≡ filter (λ x. q x && p x) xs
+filter-filter p q [] = refl
+filter-filter p q (x ∷ xs) = grind (arith, common_steps, filter-filter p q xs)
+
+-- a filter that keeps all
+pub filter_all : {X : Type 0} (xs : List X) → filter (λ _. true) xs ≡ xs
+filter_all [] = refl
+filter_all (x ∷ xs) = ap (λ ys. x ∷ ys) (filter_all xs)
+
+-- a test more in front, or one that was made already
+moved_in : (a b c d : Bool) → (a && c) ≡ (d && a) → (a && (b && c)) ≡ ((b && d) && a)
+moved_in true true c d e = e
+moved_in true false c d e = refl
+moved_in false true c d e = e
+moved_in false false c d e = refl
+
+made_already : (a c d : Bool) → (a && c) ≡ (d && a) → (a && c) ≡ ((a && d) && a)
+made_already true c d e = e
+made_already false c d e = refl
+
+-- what is fresh after a link: what was fresh before, without the thing that is linked
+fresh_after : (first : Linked) (recent : List Linked) (y : Linked)
+    → is_fresh (first ∷ filter (is_other first.thing) recent) y ≡ (is_fresh recent y && is_other first.thing y)
+fresh_after first [] y = grind (arith, common_steps)
+fresh_after first (own ∷ recent) y =
+    let so_far = fresh_after first recent y in
+    ⊎_elim
+    (λ (other : is_other first.thing own ≡ true). rw other (moved_in (is_other first.thing y) (is_other own.thing y) (is_fresh (filter (is_other first.thing) recent) y) (is_fresh recent y) so_far))
+    (λ (again : is_other first.thing own ≡ false).
+    let same : own.thing ≡ first.thing = eqb-true own.thing first.thing (not-false _ again) in
+    rw again (rw same (made_already (is_other first.thing y) (is_fresh (filter (is_other first.thing) recent) y) (is_fresh recent y) so_far)))
+    (cases_Bool (is_other first.thing own))
+
+-- a link in the order: a link in the latest
+pub order_of-linked : (first : Linked) (recent entries : List Linked)
+    → order_of (first ∷ filter (is_other first.thing) recent) entries ≡ first ∷ filter (is_other first.thing) (order_of recent entries)
+order_of-linked first recent entries =
+    ap (λ rest. first ∷ filter (is_other first.thing) recent ++ rest)
+    (filter_agree _ _ (fresh_after first recent) entries ∙ sym (filter-filter (is_other first.thing) (is_fresh recent) entries))
+    ∙ ap (λ rest. first ∷ rest) (sym (filter-append (is_other first.thing) recent (filter (is_fresh recent) entries)))
+
+-- with no link since the order is the base
+pub order_of-none : (entries : List Linked) → order_of [] entries ≡ entries
+order_of-none entries = filter_all entries
+
+-- all blocks of the order are the level's
+pub order_of-within : (blocks : ℕ) (recent entries : List Linked) → All (IsWithin blocks) recent → All (IsWithin blocks) entries
+    → All (IsWithin blocks) (order_of recent entries)
+order_of-within blocks recent entries near far =
+    All-append (IsWithin blocks) recent (filter (is_fresh recent) entries) near (All-filter (is_fresh recent) (IsWithin blocks) entries far)
+
+-- and those after a link
+pub linked-within : (blocks : ℕ) (first : Linked) (recent : List Linked) → IsWithin blocks first → All (IsWithin blocks) recent
+    → All (IsWithin blocks) (first ∷ filter (is_other first.thing) recent)
+linked-within blocks first recent here near = All-cons (IsWithin blocks) first _ here (All-filter (is_other first.thing) (IsWithin blocks) recent near)
+
+-- the things of a block in two lists
+pub things_in-append : (block : ℕ) (xs ys : List Linked) → things_in block (xs ++ ys) ≡ things_in block xs ++ things_in block ys
+things_in-append block xs ys =
+    ap (λ kept. map (λ (linked : Linked). linked.thing) kept) (filter-append (stands_in block) xs ys)
+    ∙ map-append (λ (linked : Linked). linked.thing) (filter (stands_in block) xs) (filter (stands_in block) ys)
+
+-- nothing stands in a block that the level doesn't have
+not_there : (blocks block : ℕ) (linked : Linked) → blocks ≤ block → IsWithin blocks linked → stands_in block linked ≡ false
+not_there blocks block linked past within = grind (arith, common_steps)
+
+pub things_in-none : (blocks block : ℕ) (xs : List Linked) → blocks ≤ block → All (IsWithin blocks) xs → things_in block xs ≡ []
+things_in-none blocks block [] past within = refl
+things_in-none blocks block (x ∷ xs) past within =
+    rw (not_there blocks block x past (All-head (IsWithin blocks) x xs within)) (things_in-none blocks block xs past (All-tail (IsWithin blocks) x xs within))
+
+-- the things of a block that were not linked since: what is left of a base is looked through for them
+abbrev pub fresh_in : ℕ → List Linked → List Linked → List ℕ
+fresh_in block recent entries = map (λ linked. linked.thing) (filter (is_fresh recent) (filter (stands_in block) entries))
+
+-- whichever of the two tests is made first
+pub fresh_in-is : (block : ℕ) (recent entries : List Linked) → fresh_in block recent entries ≡ things_in block (filter (is_fresh recent) entries)
+fresh_in-is block recent entries = ap (λ kept. map (λ (linked : Linked). linked.thing) kept) (filter_comm (is_fresh recent) (stands_in block) entries)
+
+-- one entry more is kept
+pub put_kept : (p : Linked → Bool) (first : Linked) (kept entries : List Linked) (len i : ℕ) (d : Linked) → i < length entries → len < length kept
+    → p (get_or entries i d) ≡ true → take len kept ≡ first ∷ filter p (take i entries)
+    → take (len + 1) (set kept len (get_or entries i d)) ≡ first ∷ filter p (take (i + 1) entries)
+put_kept p first kept entries len i d there room passes so_far =
+    take_more_set kept len (get_or entries i d) room
+    ∙ ap (λ front. front ++ get_or entries i d ∷ []) so_far
+    ∙ ap (λ more. first ∷ filter p (take i entries) ++ more) (sym (cond-true (p (get_or entries i d)) (get_or entries i d ∷ []) [] passes))
+    ∙ ap (λ rest. first ∷ rest) (sym (filter_more p entries i d there))
+
+-- one is left out
+pub put_left : (p : Linked → Bool) (first : Linked) (front entries : List Linked) (i : ℕ) (d : Linked) → i < length entries
+    → p (get_or entries i d) ≡ false → front ≡ first ∷ filter p (take i entries) → front ≡ first ∷ filter p (take (i + 1) entries)
+put_left p first front entries i d there fails so_far =
+    so_far ∙ ap (λ rest. first ∷ rest)
+    (sym (append-nil (filter p (take i entries)))
+    ∙ ap (λ more. filter p (take i entries) ++ more) (sym (cond-false (p (get_or entries i d)) (get_or entries i d ∷ []) [] fails))
+    ∙ sym (filter_more p entries i d there))

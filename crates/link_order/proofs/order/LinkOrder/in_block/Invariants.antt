@@ -1,7 +1,0 @@
--- what stands in `out` are the things of the block among the entries so far
-use Rattle.std.proofs.Common.{◌≡◌, take}
-use Rattle.link_order.specs.Links.{things_in}
-use Rattle.link_order.proofs.order.LinkOrder.in_block.Given as goal
-
-abbrev pub invariant-loop-linked : goal.invariant-loop-linked
-invariant-loop-linked l = l.out.items ≡ things_in l.block (take l.linked-index l.linked-items)
