@@ -1,13 +1,14 @@
 -- Lists that are filtered, and the order in its two parts.
-use Rattle.std.proofs.Common.{◌≡◌, ℕ, ◌+◌, get_or, set, take, ◌<◌, ◌≤◌, Bool, true, false, not, cond, ◌&&◌, eqb, List, [], ◌∷◌, ◌++◌, length, map, refl, sym, ap, ◌∙◌, ⊎_elim, arith, All, Some, None}
-use Rattle.std.specs.List.{filter, list_all}
-use Rattle.std.proofs.lemmas.Bool.{cases_Bool, cond-true, cond-false, not-false, eqb-true, ne_eqb}
+use Rattle.std.proofs.Common.{◌≡◌, ◌≢◌, ℕ, ◌+◌, get_or, set, take, ◌<◌, ◌≤◌, Bool, true, false, ◌&&◌, List, [], ◌∷◌, ◌++◌, length, map, refl, sym, ap, ◌∙◌, ⊎_elim, arith, All, subst}
+use Rattle.std.specs.List.{filter}
+use Rattle.std.proofs.lemmas.Bool.{cases_Bool, cond-true, cond-false, not-false, not-true, eqb-true, eqb-false}
 use Rattle.std.proofs.lemmas.Grind.{common_steps}
 use Rattle.std.proofs.lemmas.List.{map-append, append-nil, take_more_set}
-use Rattle.std.proofs.lemmas.List.Elements.{filter-append, filter_agree, filter_more, All-append, All-cons, All-filter, All-head, All-tail}
+use Rattle.std.proofs.lemmas.List.Elements.{filter-append, filter_agree, filter_more, filter_passes, All-weaker, All-append, All-nil, All-cons, All-filter, All-head, All-tail}
+use Rattle.std.proofs.lemmas.List.Kept.{AllPairs-cons, AllPairs-filter}
 use Rattle.link_order.specs.declared.linked.Linked.{Linked}
-use Rattle.link_order.specs.Links.{is_other, stands_in, things_in, linked_first, IsWithin}
-use Rattle.link_order.specs.Parts.{is_fresh, order_of}
+use Rattle.link_order.specs.Links.{is_other, stands_in, things_in, EachOnce, IsWithin}
+use Rattle.link_order.specs.Parts.{is_fresh, order_of, IsOrder}
 
 -- two filters, one after the other, in either order
 pub filter_comm : {X : Type 0} (p q : X → Bool) (xs : List X) → filter p (filter q xs) ≡ filter q (filter p xs)
@@ -66,10 +67,27 @@ pub order_of-within : (blocks : ℕ) (recent entries : List Linked) → All (IsW
 order_of-within blocks recent entries near far =
     All-append (IsWithin blocks) recent (filter (is_fresh recent) entries) near (All-filter (is_fresh recent) (IsWithin blocks) entries far)
 
--- and those after a link
-pub linked-within : (blocks : ℕ) (first : Linked) (recent : List Linked) → IsWithin blocks first → All (IsWithin blocks) recent
-    → All (IsWithin blocks) (first ∷ filter (is_other first.thing) recent)
-linked-within blocks first recent here near = All-cons (IsWithin blocks) first _ here (All-filter (is_other first.thing) (IsWithin blocks) recent near)
+-- each thing stands once after a link
+EachOnce-linked : (first : Linked) (order : List Linked) → EachOnce order → EachOnce (first ∷ filter (is_other first.thing) order)
+EachOnce-linked first order once =
+    let others : All (λ (linked : Linked). first.thing ≢ linked.thing) (filter (is_other first.thing) order) =
+    All-weaker _ (λ linked. first.thing ≢ linked.thing) (λ linked passes same. eqb-false linked.thing first.thing (not-true _ passes) (sym same)) _ (filter_passes (is_other first.thing) order) in
+    AllPairs-cons (λ (one other : Linked). one.thing ≢ other.thing) first _ others (AllPairs-filter (λ (one other : Linked). one.thing ≢ other.thing) (is_other first.thing) order once)
+
+-- what is kept of the parts after a link
+pub IsOrder-linked : (first : Linked) (recent entries : List Linked) (blocks : ℕ) → IsWithin blocks first → IsOrder recent entries blocks
+    → IsOrder (first ∷ filter (is_other first.thing) recent) entries blocks
+IsOrder-linked first recent entries blocks here parts = record {
+  once = subst EachOnce (sym (order_of-linked first recent entries)) (EachOnce-linked first (order_of recent entries) parts.once);
+  within = All-cons (IsWithin blocks) first _ here (All-filter (is_other first.thing) (IsWithin blocks) recent parts.within);
+}
+
+-- and where all is in the base
+pub IsOrder-none : (entries : List Linked) (blocks : ℕ) → EachOnce entries → IsOrder [] entries blocks
+IsOrder-none entries blocks once = record {
+  once = subst EachOnce (sym (order_of-none entries)) once;
+  within = All-nil (IsWithin blocks);
+}
 
 -- the things of a block in two lists
 pub things_in-append : (block : ℕ) (xs ys : List Linked) → things_in block (xs ++ ys) ≡ things_in block xs ++ things_in block ys

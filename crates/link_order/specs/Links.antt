@@ -1,5 +1,5 @@
 -- The order in which things were linked.
-use Rattle.std.specs.Prelude.{ℕ, Bool, false, not, ◌==◌, ◌<◌, List, ◌∷◌, Option, filter, map, IfSome}
+use Rattle.std.specs.Prelude.{ℕ, Bool, false, not, ◌==◌, ◌≢◌, ◌<◌, List, ◌∷◌, Option, filter, map, AllPairs, IfSome}
 use Rattle.std.specs.Option.{option_map_or}
 use Rattle.link_order.specs.declared.linked.Linked.{Linked}
 
@@ -17,6 +17,10 @@ is_other thing linked = not (linked.thing == thing)
 -- the order after a link: that thing first, and then the others as they stood
 abbrev pub linked_first : ℕ → Option ℕ → List Linked → List Linked
 linked_first thing block order = record { thing = thing; block = block } ∷ filter (is_other thing) order
+
+-- each thing stands there once
+abbrev pub EachOnce : List Linked → Type 0
+EachOnce order = AllPairs (λ one other. one.thing ≢ other.thing) order
 
 -- is it linked in this block?
 abbrev pub stands_in : ℕ → Linked → Bool

@@ -2,7 +2,7 @@
 use Rattle.std.specs.Prelude.{◌≡◌, ℕ, ◌+◌, ◌<◌, ◌≤◌, Bool, true, List, ◌++◌, length, filter, drop, All, slice_index_or}
 use Rattle.std.specs.List.{list_all}
 use Rattle.link_order.specs.declared.linked.Linked.{Linked}
-use Rattle.link_order.specs.Links.{is_other, stands_in, IsWithin}
+use Rattle.link_order.specs.Links.{is_other, stands_in, EachOnce, IsWithin}
 
 -- is it a thing of none of these?
 abbrev pub is_fresh : List Linked → Linked → Bool
@@ -11,6 +11,11 @@ is_fresh recent linked = list_all (λ own. is_other own.thing linked) recent
 -- the whole order: the latest links, and then what is in the base and was not linked since
 abbrev pub order_of : List Linked → List Linked → List Linked
 order_of recent entries = recent ++ filter (is_fresh recent) entries
+
+-- each thing stands there once, and the blocks of the latest links are the level's
+pub record IsOrder (recent entries : List Linked) (blocks : ℕ) : Type 0 where
+  pub once : EachOnce (order_of recent entries)
+  pub within : All (IsWithin blocks) recent
 
 -- the base: its entries, the last linked first, and how many blocks the level has
 pub record Settled : Type 0 where

@@ -1,6 +1,6 @@
 // The order of linking.
 ghost use Rattle.std.specs.Prelude.{◌≡◌, ◌++◌, ◌<◌, [], OnOk, IfOk, IfSome};
-ghost use Rattle.link_order.specs.Links.{linked_first, things_in};
+ghost use Rattle.link_order.specs.Links.{linked_first, things_in, EachOnce};
 
 use crate::base::Base;
 use crate::linked::Linked;
@@ -23,16 +23,17 @@ pub struct LinkOrder {
 }
 
 impl Model for LinkOrder {
-    ghost use Rattle.std.specs.Prelude.{◌-◌, length, All};
+    ghost use Rattle.std.specs.Prelude.{◌-◌, length};
     ghost use Rattle.std.specs.Arc.{arc_value};
-    ghost use Rattle.link_order.specs.Links.{Links, IsWithin};
-    ghost use Rattle.link_order.specs.Parts.{order_of};
+    ghost use Rattle.link_order.specs.declared.recent.TheConstants.{RECENT_LEN};
+    ghost use Rattle.link_order.specs.Links.{Links};
+    ghost use Rattle.link_order.specs.Parts.{order_of, IsOrder};
 
     ghost Value = { Links };
 
-    ghost view = { λ a. record { order = order_of a.recent (arc_value a.base).entries; room = 16 - length a.recent; blocks = (arc_value a.base).blocks } };
+    ghost view = { λ a. record { order = order_of a.recent (arc_value a.base).entries; room = RECENT_LEN - length a.recent; blocks = (arc_value a.base).blocks } };
 
-    ghost invariant = { λ a. All (IsWithin (arc_value a.base).blocks) a.recent };
+    ghost invariant = { λ a. IsOrder a.recent (arc_value a.base).entries (arc_value a.base).blocks };
 }
 
 impl LinkOrder {
@@ -70,6 +71,7 @@ impl LinkOrder {
         requires room { 0 < self.old.room }
         requires within { IfSome block (λ b. b < self.old.blocks) }
         ensures order { self.new.order ≡ linked_first thing block self.old.order }
+        ensures once { EachOnce self.new.order }
         ensures blocks { self.new.blocks ≡ self.old.blocks }
     {
         self.recent.put_first(Linked { thing, block });

@@ -6,7 +6,7 @@ use crate::linked::Linked;
 use std::marker::Model;
 
 // How many links are kept beside the base.
-const RECENT_LEN: usize = 16;
+pub(crate) const RECENT_LEN: usize = 16;
 
 // The latest links, the last first. They stand in the struct itself, so that a copy takes no memory.
 #[derive(Drop)]
@@ -18,12 +18,13 @@ pub(crate) struct Recent {
 impl Model for Recent {
     ghost use Rattle.std.specs.Prelude.{◌≤◌, List, take};
     ghost use Rattle.link_order.specs.declared.linked.Linked.{Linked};
+    ghost use Rattle.link_order.specs.declared.recent.TheConstants.{RECENT_LEN};
 
     ghost Value = { List Linked };
 
     ghost view = { λ a. take a.len a.entries };
 
-    ghost invariant = { λ a. a.len ≤ 16 };
+    ghost invariant = { λ a. a.len ≤ RECENT_LEN };
 }
 
 impl Recent {
@@ -42,21 +43,21 @@ impl Recent {
 
     pub(crate) fn as_slice(&self) -> &[Linked]
         ensures same { result.now ≡ self.now }
-        ensures most { length self.now ≤ 16 }
+        ensures most { length self.now ≤ RECENT_LEN }
     {
         &self.entries[..self.len]
     }
 
     // Whether one more fits.
     pub(crate) fn has_room(&self) -> bool
-        ensures { IsTrue result ↔ (length self.now < 16) }
+        ensures { IsTrue result ↔ (length self.now < RECENT_LEN) }
     {
         self.as_slice().len() < RECENT_LEN
     }
 
     // Puts an entry in front, and drops the one of the same thing.
     pub(crate) fn put_first(&mut self, first: Linked)
-        requires { length self.old < 16 }
+        requires { length self.old < RECENT_LEN }
         ensures { self.new ≡ first ∷ filter (is_other first.thing) self.old }
     {
         let mut entries = [first; RECENT_LEN];

@@ -1,5 +1,4 @@
 -- from here on all entries are joined
-use Rattle.std.proofs.Common.{◌≡◌, length}
 use Rattle.link_order.specs.Parts.{IsJoined}
 use Rattle.link_order.proofs.base.join.Given as goal
 

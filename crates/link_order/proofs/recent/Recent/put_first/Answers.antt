@@ -1,4 +1,4 @@
-use Rattle.std.proofs.Common.{◌≡◌, ◌+◌, ◌<◌, true, false, length, length-set, arith, ap, sym, ◌∙◌}
+use Rattle.std.proofs.Common.{length, length-set, arith, ap, sym, ◌∙◌}
 use Rattle.link_order.specs.Links.{is_other}
 use Rattle.link_order.proofs.Orders.{put_kept, put_left}
 use Rattle.link_order.proofs.recent.Recent.put_first.Goals as goal
