@@ -8,3 +8,6 @@ mod recent;
 
 pub use linked::Linked;
 pub use order::LinkOrder;
+
+#[cfg(test)]
+mod tests;
