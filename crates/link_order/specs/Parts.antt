@@ -1,8 +1,12 @@
 -- The order in two parts: the latest links, and the base.
-use Rattle.std.specs.Prelude.{◌≡◌, ℕ, ◌+◌, ◌<◌, ◌≤◌, Bool, true, List, ◌++◌, length, filter, drop, All, slice_index_or}
+use Rattle.std.specs.Prelude.{◌≡◌, ℕ, ◌+◌, ◌<◌, ◌≤◌, Bool, true, List, ◌∷◌, ◌++◌, length, filter, drop, All, slice_index_or}
 use Rattle.std.specs.List.{list_all}
 use Rattle.link_order.specs.declared.linked.Linked.{Linked}
 use Rattle.link_order.specs.Links.{is_other, stands_in, EachOnce, IsWithin}
+
+-- an entry in front, and behind it the others without the thing
+abbrev pub in_front : Linked → List Linked → List Linked
+in_front first order = first ∷ filter (is_other first.thing) order
 
 -- is it a thing of none of these?
 abbrev pub is_fresh : List Linked → Linked → Bool
@@ -32,8 +36,8 @@ pub record Leads (entries : List Linked) (block from to : ℕ) : Type 0 where
 pub record IsJoined (entries : List Linked) (heads next : List ℕ) (from : ℕ) : Type 0 where
   pub long : length next ≡ length entries
   pub head : (block : ℕ) → block < length heads → Leads entries block from (slice_index_or heads block 0)
-  pub after : (block i : ℕ) (d : Linked) → from ≤ i → i < length entries → stands_in block (slice_index_or entries i d) ≡ true
-      → Leads entries block (i + 1) (slice_index_or next i 0)
+  pub after : (block i : ℕ) (d : Linked) → from ≤ i → i < length entries
+      → stands_in block (slice_index_or entries i d) ≡ true → Leads entries block (i + 1) (slice_index_or next i 0)
 
 -- the way through a base is whole, and its blocks are the level's
 pub record IsBase (entries : List Linked) (heads next : List ℕ) : Type 0 where

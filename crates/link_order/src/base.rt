@@ -55,7 +55,8 @@ impl Base {
 
     // Appends the entries of things that were not linked since.
     pub(crate) fn push_fresh(&self, recent: &[Linked], into: &mut Vec<Linked>) -> Result<(), Memory>
-        ensures { OnOk result (into.new.items ≡ into.old.items ++ filter (is_fresh recent.now) self.now.entries) }
+        ensures { OnOk result (
+            into.new.items ≡ into.old.items ++ filter (is_fresh recent.now) self.now.entries) }
     {
         for linked in &self.entries {
             if linked.is_fresh(recent) {
@@ -72,7 +73,8 @@ impl Base {
         recent: &[Linked],
         out: &mut Vec<u32>,
     ) -> Result<(), Memory>
-        ensures { OnOk result (out.new.items ≡ out.old.items ++ things_in block (filter (is_fresh recent.now) self.now.entries)) }
+        ensures { OnOk result (
+            out.new.items ≡ out.old.items ++ things_in block (filter (is_fresh recent.now) self.now.entries)) }
     {
         let Some(head) = self.heads.get(block as usize) else {
             return Ok(());

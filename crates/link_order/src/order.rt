@@ -31,7 +31,11 @@ impl Model for LinkOrder {
 
     ghost Value = { Links };
 
-    ghost view = { λ a. record { order = order_of a.recent (arc_value a.base).entries; room = RECENT_LEN - length a.recent; blocks = (arc_value a.base).blocks } };
+    ghost view = { λ a. record {
+      order = order_of a.recent (arc_value a.base).entries;
+      room = RECENT_LEN - length a.recent;
+      blocks = (arc_value a.base).blocks;
+    } };
 
     ghost invariant = { λ a. IsOrder a.recent (arc_value a.base).entries (arc_value a.base).blocks };
 }

@@ -1,6 +1,6 @@
 // The latest links.
-ghost use Rattle.std.specs.Prelude.{◌≡◌, ◌<◌, ◌≤◌, ◌↔◌, [], ◌∷◌, length, filter, IsTrue};
-ghost use Rattle.link_order.specs.Links.{is_other};
+ghost use Rattle.std.specs.Prelude.{◌≡◌, ◌<◌, ◌≤◌, ◌↔◌, [], length, IsTrue};
+ghost use Rattle.link_order.specs.Parts.{in_front};
 
 use crate::linked::Linked;
 use std::marker::Model;
@@ -58,7 +58,7 @@ impl Recent {
     // Puts an entry in front, and drops the one of the same thing.
     pub(crate) fn put_first(&mut self, first: Linked)
         requires { length self.old < RECENT_LEN }
-        ensures { self.new ≡ first ∷ filter (is_other first.thing) self.old }
+        ensures { self.new ≡ in_front first self.old }
     {
         let mut entries = [first; RECENT_LEN];
         let mut len = 1;

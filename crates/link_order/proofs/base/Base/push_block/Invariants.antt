@@ -7,7 +7,8 @@ use Rattle.link_order.proofs.base.Base.push_block.Given as goal
 
 abbrev pub invariant-loop-at : goal.invariant-loop-at
 invariant-loop-at l = record {
-  here : (d : Linked) → l.at < length l.self-inside.entries.items → stands_in l.block (get_or l.self-inside.entries.items l.at d) ≡ true;
+  here : (d : Linked) → l.at < length l.self-inside.entries.items
+      → stands_in l.block (get_or l.self-inside.entries.items l.at d) ≡ true;
   rest : l.out.items ++ fresh_in l.block l.recent (drop l.at l.self-inside.entries.items)
       ≡ l.fn.out.items ++ fresh_in l.block l.recent l.self-inside.entries.items;
 }

@@ -15,7 +15,8 @@ loop-linked-preserved c =
         within = omega arith;
         put = rw (w.entries-is, w.len-is) (
             put_kept p c.args.first c.loop-linked.entries entries c.loop-linked.len c.loop-linked.linked-index _
-            c.loop-linked-test.true (omega (arith, ap length c.loop-linked.invariant.same)) (sym c.is_other.ensures ∙ w.if-is_other.true) c.loop-linked.invariant.put);
+            c.loop-linked-test.true (omega (arith, ap length c.loop-linked.invariant.same))
+            (sym c.is_other.ensures ∙ w.if-is_other.true) c.loop-linked.invariant.put);
       }
       | else-is_other w ↦ record {
         long = ap length w.entries-is ∙ c.loop-linked.invariant.long;
