@@ -1,5 +1,5 @@
 -- Frames after one more, after a cut, and a replay that goes on from one.
-use Rattle.std.proofs.Common.{ℕ, zero, suc, ◌+◌, ◌-◌, ◌*◌, ◌/◌, ◌<◌, ◌≤◌, ◌≡◌, ◌++◌, ◌⊎◌, inl, inr, List, [], ◌∷◌, length, take, drop, get_or, min, arith, ap, refl, sym, ◌∙◌, Some, slice_get, Result, Ok, Err, IfOk}
+use Rattle.std.proofs.Common.{ℕ, zero, suc, ◌+◌, ◌-◌, ◌*◌, ◌/◌, ◌<◌, ◌≤◌, ◌≡◌, ◌++◌, ◌⊎◌, inl, inr, List, [], ◌∷◌, length, take, drop, get_or, arith, ap, refl, sym, ◌∙◌, Some, slice_get, Result, Ok, Err, IfOk}
 use Rattle.std.proofs.lemmas.List.{take_more, take-take, take-append-drop, drop-take, length-take, length_push}
 use Rattle.std.proofs.lemmas.List.Sums.{fold-append}
 use Rattle.std.specs.List.{fold}
@@ -7,7 +7,7 @@ use Rattle.doom_edge.specs.Counts.{raised, raised_from, raised-at_most}
 use Rattle.lmp_codec.specs.declared.input.Tic.{Tic}
 use Rattle.game_trait.specs.declared.game.Game.{Ghosts}
 use Rattle.game_trait.specs.Replay.{after_all, replay, IsReplay}
-use Rattle.key_frames.specs.Frames.{frame_tics, frame_tic, not_past, AreFrames}
+use Rattle.key_frames.specs.Frames.{frame_tics, frame_tic, frame_below, not_past, AreFrames}
 
 -- what is read of a list after a push
 get_push : {X : Type 0} (xs : List X) (x : X) (k : ℕ) (v : X)
@@ -145,8 +145,8 @@ raised_on count now then first by sum so more is =
 
 -- a tic that a frame is near to takes less steps than frames are apart
 pub raised_near : (before now last tic : ℕ)
-    → now ≡ raised before (tic - min last (frame_tic tic))
+    → now ≡ raised before (tic - frame_below last tic)
     → frame_tic tic ≤ last
     → now < before + frame_tics
 raised_near before now last tic is near =
-    omega (arith, raised-at_most before (tic - min last (frame_tic tic)))
+    omega (arith, raised-at_most before (tic - frame_below last tic))

@@ -17,9 +17,9 @@ frame_tic tic = frame_tics * (tic / frame_tics)
 abbrev pub reach : {W : Type 0} → List W → ℕ
 reach frames = frame_tics * (length frames - 1)
 
--- the tic of the greatest frame that is kept and not above this tic
-abbrev pub frame_below : {W : Type 0} → List W → ℕ → ℕ
-frame_below frames tic = min (reach frames) (frame_tic tic)
+-- the tic of the greatest frame that is kept and not above this tic, given that of the last one
+abbrev pub frame_below : ℕ → ℕ → ℕ
+frame_below last tic = min last (frame_tic tic)
 
 -- the frames that are not past this tic
 abbrev pub not_past : {W : Type 0} → List W → ℕ → List W

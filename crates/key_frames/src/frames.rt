@@ -65,7 +65,7 @@ impl<G: Game> Frames<G> {
         requires belong { AreFrames G.Game game.now tics.now self.old }
         requires inside { t ≤ length tics.now }
         ensures world { IfOk result (IsReplay G.Game game.now (take t tics.now)) }
-        ensures tics { OnOk result (steps.new.tics ≡ raised steps.old.tics (t - frame_below self.old t)) }
+        ensures tics { OnOk result (steps.new.tics ≡ raised steps.old.tics (t - frame_below (reach self.old) t)) }
         ensures near { OnOk result (frame_tic t ≤ reach self.old → steps.new.tics < steps.old.tics + frame_tics) }
         ensures reach { OnOk result (reach self.new ≡ max (reach self.old) (frame_tic t)) }
         ensures none_dropped { reach self.old ≤ reach self.new }
@@ -84,7 +84,7 @@ impl<G: Game> Frames<G> {
     /// same `t` tics.
     pub fn cut(&mut self, t: u32)
         ensures left { self.new ≡ not_past self.old t }
-        ensures reach { reach self.new ≡ frame_below self.old t }
+        ensures reach { reach self.new ≡ frame_below (reach self.old) t }
         ensures belong { (game : G) (tics other : List Tic)
             → AreFrames G.Game game tics self.old → take t tics ≡ take t other → t ≤ length other
             → AreFrames G.Game game other self.new }
