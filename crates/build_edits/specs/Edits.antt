@@ -66,12 +66,12 @@ accept_outcome tics parts =
     else Ok (record { before = parts.before ++ tics; after = [] })
 
 -- The call did what its command comes to. Refused, it left what stood.
-abbrev pub Edits : {D : Type 0} → Result D EditFault → Parts → Parts → Outcome → Type 0
+abbrev pub Edits : {D S : Type 0} → Result D EditFault → S → S → Result S EditFault → Type 0
 Edits (Ok done) old new outcome = outcome ≡ Ok new
 Edits (Err fault) old new outcome = (outcome ≡ Err fault) × (new ≡ old)
 
 -- The same of a call that may find no memory, and then leaves what stood.
-abbrev pub MayEdit : {D : Type 0} → Result D EditFault → Parts → Parts → Outcome → Type 0
+abbrev pub MayEdit : {D S : Type 0} → Result D EditFault → S → S → Result S EditFault → Type 0
 MayEdit (Ok done) old new outcome = outcome ≡ Ok new
 MayEdit (Err Memory) old new outcome = new ≡ old
 MayEdit (Err (Place count)) old new outcome = (outcome ≡ Err (Place count)) × (new ≡ old)
