@@ -5,8 +5,8 @@ use Rattle.build_edits.specs.Parts.{Parts}
 use Rattle.build_edits.specs.Edits.{Outcome}
 use Rattle.build_edits.specs.declared.fault.EditFault.{EditFault}
 
--- A game, a tape, and the tic of the last world that is kept. There is one for each 256th tic up to that one, and each
--- is the plain replay of the tics before it, so nothing else needs to be said of them.
+-- A game, a tape, and the tic of the last world that is kept. There is one for each 256th tic up to that one,
+-- and each is the plain replay of the tics before it, so nothing else needs to be said of them.
 pub record Built (G : Type 0) : Type 0 where
   pub game : G
   pub tape : Parts
@@ -23,5 +23,6 @@ after_seek build (Err fault) = Err fault
 
 -- After an edit at the cursor the tape has these parts, and the worlds past the cursor are gone.
 abbrev pub after_edit : {G : Type 0} → Built G → Outcome → Result (Built G) EditFault
-after_edit build (Ok tape) = Ok (record { game = build.game; tape = tape; reach = frame_below build.reach (cursor_of build) })
+after_edit build (Ok tape) =
+    Ok (record build { tape = tape; reach = frame_below build.reach (cursor_of build) })
 after_edit build (Err fault) = Err fault

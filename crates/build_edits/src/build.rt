@@ -16,11 +16,12 @@ use lmp_codec::Tic;
 use std::alloc::Global;
 use std::marker::Model;
 
-/// A tape that is played in a game: the world at the cursor can be shown, and worlds that are kept on the way make that
-/// cheap.
+/// A tape that is played in a game: the world at the cursor can be shown, and worlds that are kept on the way
+/// make that cheap.
 ///
-/// It is seen as the game, the tape's parts and the tic of the last world that is kept. Each edit is that of the
-/// [`Tape`], with the same refusals, and drops the kept worlds past the cursor, since they are no replays any more.
+/// It is seen as the game, the tape's parts and the tic of the last world that is kept. Each edit is that of
+/// the [`Tape`], with the same refusals, and drops the kept worlds past the cursor, since they are no replays
+/// any more.
 #[derive(Drop)]
 pub struct Build<G: Game> {
     game: G,
@@ -64,13 +65,15 @@ impl<G: Game> Build<G> {
         self.tape.cursor()
     }
 
-    /// The world at the cursor: the plain replay of the tics before it. It takes a tic step for each tic from the last
-    /// kept world that is not past the cursor. Without memory, the worlds that were made on the way stay.
+    /// The world at the cursor: the plain replay of the tics before it. It takes a tic step for each tic from
+    /// the last kept world that is not past the cursor. Without memory, the worlds that were made on the way
+    /// stay.
     pub fn world(&mut self, alloc: Global, steps: &mut Steps) -> Result<G::World, Memory>
         ensures world { IfOk result (IsReplay G.Game self.old.game self.old.tape.before) }
         ensures tics { let played = cursor_of self.old - frame_below self.old.reach (cursor_of self.old) in
             OnOk result (steps.new.tics ≡ raised steps.old.tics played) }
-        ensures near { OnOk result (frame_tic (cursor_of self.old) ≤ self.old.reach → steps.new.tics < steps.old.tics + frame_tics) }
+        ensures near { OnOk result (frame_tic (cursor_of self.old) ≤ self.old.reach
+            → steps.new.tics < steps.old.tics + frame_tics) }
         ensures kept { self.new ≡ record self.old { reach = self.new.reach } }
         ensures reach { OnOk result (self.new.reach ≡ max self.old.reach (frame_tic (cursor_of self.old))) }
         ensures none_dropped { self.old.reach ≤ self.new.reach }
@@ -79,8 +82,8 @@ impl<G: Game> Build<G> {
         ensures pages_never_fall { steps.old.pages ≤ steps.new.pages }
     {
         let place = self.tape.cursor();
-        self.frames
-            .world_at(alloc, &self.game, place, self.tape.tics(), steps)
+        let tics = self.tape.tics();
+        self.frames.world_at(alloc, &self.game, place, tics, steps)
     }
 
     /// Moves the cursor to this place. Refused with `Place` and the number of tics where that is less.
@@ -91,8 +94,8 @@ impl<G: Game> Build<G> {
         Ok(())
     }
 
-    /// Writes the tic over the one at the cursor, or appends it at the end, and moves the cursor behind it. Refused
-    /// with `TooLong` where it would be one tic too many.
+    /// Writes the tic over the one at the cursor, or appends it at the end, and moves the cursor behind it.
+    /// Refused with `TooLong` where it would be one tic too many.
     pub fn put(&mut self, tic: Tic) -> Result<(), EditFault>
         ensures { MayEdit result self.old self.new (after_edit self.old (put_outcome tic self.old.tape)) }
     {
@@ -102,8 +105,8 @@ impl<G: Game> Build<G> {
         Ok(())
     }
 
-    /// Inserts the tic at the cursor, and moves the cursor behind it. Refused with `TooLong` where it would be one tic
-    /// too many.
+    /// Inserts the tic at the cursor, and moves the cursor behind it. Refused with `TooLong` where it would
+    /// be one tic too many.
     pub fn insert(&mut self, tic: Tic) -> Result<(), EditFault>
         ensures { MayEdit result self.old self.new (after_edit self.old (insert_outcome tic self.old.tape)) }
     {
@@ -113,7 +116,8 @@ impl<G: Game> Build<G> {
         Ok(())
     }
 
-    /// Removes the tic at the cursor. Refused with `Place` and the number of tics where the cursor is at the end.
+    /// Removes the tic at the cursor. Refused with `Place` and the number of tics where the cursor is at the
+    /// end.
     pub fn delete(&mut self) -> Result<(), EditFault>
         ensures { Edits result self.old self.new (after_edit self.old (delete_outcome self.old.tape)) }
     {
@@ -133,10 +137,11 @@ impl<G: Game> Build<G> {
         Ok(())
     }
 
-    /// Puts the tic before the cursor so many times more. Refused with `Before` where there is none, and with `TooLong`
-    /// where that would be too many tics.
+    /// Puts the tic before the cursor so many times more. Refused with `Before` where there is none, and with
+    /// `TooLong` where that would be too many tics.
     pub fn repeat(&mut self, count: u32) -> Result<(), EditFault>
-        ensures { MayEdit result self.old self.new (after_edit self.old (repeat_outcome count self.old.tape)) }
+        ensures { let outcome = repeat_outcome count self.old.tape in
+            MayEdit result self.old self.new (after_edit self.old outcome) }
     {
         let place = self.tape.cursor();
         self.tape.repeat(count)?;
@@ -144,10 +149,11 @@ impl<G: Game> Build<G> {
         Ok(())
     }
 
-    /// Puts these tics in place of all tics from the cursor on, and moves the cursor to the end. Refused with `TooLong`
-    /// where that would be too many tics.
+    /// Puts these tics in place of all tics from the cursor on, and moves the cursor to the end. Refused with
+    /// `TooLong` where that would be too many tics.
     pub fn accept(&mut self, tics: &[Tic]) -> Result<(), EditFault>
-        ensures { MayEdit result self.old self.new (after_edit self.old (accept_outcome tics.now self.old.tape)) }
+        ensures { let outcome = accept_outcome tics.now self.old.tape in
+            MayEdit result self.old self.new (after_edit self.old outcome) }
     {
         let place = self.tape.cursor();
         self.tape.accept(tics)?;
@@ -160,7 +166,8 @@ impl<G: Game + Drop> Build<G> {
     /// A build of these tics in this game, with the cursor at its start.
     pub fn begin(alloc: Global, game: G, tics: Vec<Tic>) -> Result<Build<G>, Memory>
         requires { length tics.items ≤ most_tics }
-        ensures { IfOk result (λ build. build ≡ record { game = game; tape = record { before = []; after = tics.items }; reach = 0 }) }
+        ensures { IfOk result (λ build. build ≡
+            record { game = game; tape = record { before = []; after = tics.items }; reach = 0 }) }
     {
         let frames = Frames::new(alloc, &game)?;
         Ok(Build {
@@ -170,3 +177,6 @@ impl<G: Game + Drop> Build<G> {
         })
     }
 }
+
+#[cfg(test)]
+mod tests;

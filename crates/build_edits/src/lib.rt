@@ -1,4 +1,5 @@
-//! The edits of a demo that is built tic by tic: a list of tics and a cursor in it.
+//! The edits of a demo that is built tic by tic: a list of tics and a cursor in it, and in a game the world
+//! at the cursor.
 #![tactic(auto)]
 
 mod build;
