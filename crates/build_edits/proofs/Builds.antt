@@ -1,5 +1,5 @@
 -- An edit leaves the tics before the cursor, and so the worlds that are kept along them.
-use Rattle.std.proofs.Common.{ℕ, ◌≤◌, ◌≡◌, ◌==◌, ◌+◌, nat_lt, ◌++◌, List, [], ◌∷◌, length, take, drop, Bool, true, false, if◌then◌else◌, arith, ap, refl, sym, ◌∙◌, append_assoc, Ok, Err}
+use Rattle.std.proofs.Common.{ℕ, ◌≤◌, ◌≡◌, ◌==◌, ◌+◌, nat_lt, ◌++◌, List, [], ◌∷◌, length, take, drop, Bool, true, false, if◌then◌else◌, arith, ap, sym, ◌∙◌, append_assoc, Ok, Err}
 use Rattle.std.proofs.lemmas.List.{take_at, length-append}
 use Rattle.lmp_codec.specs.Demo.{most_tics}
 use Rattle.lmp_codec.specs.declared.input.Tic.{Tic}

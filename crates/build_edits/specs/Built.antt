@@ -16,13 +16,15 @@ pub record Built (G : Type 0) : Type 0 where
 abbrev pub cursor_of : {G : Type 0} → Built G → ℕ
 cursor_of build = length build.tape.before
 
--- After a move of the cursor the tape has these parts, and all else is as it was.
-abbrev pub after_seek : {G : Type 0} → Built G → Outcome → Result (Built G) EditFault
-after_seek build (Ok tape) = Ok (record build { tape = tape })
-after_seek build (Err fault) = Err fault
+-- the build with the tape that an edit comes to, and with worlds kept up to this tic
+abbrev pub with_tape : {G : Type 0} → Built G → ℕ → Outcome → Result (Built G) EditFault
+with_tape build reach (Ok tape) = Ok (record build { tape = tape; reach = reach })
+with_tape build reach (Err fault) = Err fault
 
--- After an edit at the cursor the tape has these parts, and the worlds past the cursor are gone.
+-- After a move of the cursor all worlds are kept.
+abbrev pub after_seek : {G : Type 0} → Built G → Outcome → Result (Built G) EditFault
+after_seek build outcome = with_tape build build.reach outcome
+
+-- After an edit at the cursor the worlds past the cursor are gone.
 abbrev pub after_edit : {G : Type 0} → Built G → Outcome → Result (Built G) EditFault
-after_edit build (Ok tape) =
-    Ok (record build { tape = tape; reach = frame_below build.reach (cursor_of build) })
-after_edit build (Err fault) = Err fault
+after_edit build outcome = with_tape build (frame_below build.reach (cursor_of build)) outcome

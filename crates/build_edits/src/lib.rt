@@ -4,11 +4,13 @@
 
 mod build;
 mod fault;
+mod laws;
 mod list;
 mod reel;
 
 pub use build::Build;
 pub use fault::EditFault;
+pub use laws::lists_of_edits;
 pub use reel::Tape;
 
 #[cfg(test)]
