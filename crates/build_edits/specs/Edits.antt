@@ -17,7 +17,8 @@ seek_outcome place parts =
     then Err (Place (length (all_tics parts)))
     else Ok (parts_at (all_tics parts) place)
 
--- `put`: the tic takes the place of the one at the cursor, or is appended where there is none, if a demo may be longer
+-- `put`: the tic takes the place of the one at the cursor, or is appended where there is none, if a demo may
+-- be longer
 abbrev pub put_outcome : Tic → Parts → Outcome
 put_outcome tic parts =
     if length parts.after == 0 && nat_le most_tics (length parts.before)
@@ -51,14 +52,19 @@ abbrev pub copies : ℕ → Option Tic → List Tic
 copies count None = []
 copies count (Some tic) = replicate count tic
 
--- `repeat`: so many times a `put` of the tic just before the cursor, if there is one and a demo may be that long
+-- `repeat`: so many times a `put` of the tic just before the cursor, if there is one and a demo may be that
+-- long
 abbrev pub repeat_outcome : ℕ → Parts → Outcome
 repeat_outcome count parts =
     if length parts.before == 0 then Err Before
     else if nat_lt most_tics (length parts.before + count) then Err TooLong
-    else Ok (record { before = parts.before ++ copies count (last_of parts.before); after = drop count parts.after })
+    else Ok (record {
+      before = parts.before ++ copies count (last_of parts.before);
+      after = drop count parts.after;
+    })
 
--- `accept`: these tics come after the ones before the cursor, in place of the rest, if a demo may be that long
+-- `accept`: these tics come after the ones before the cursor, in place of the rest, if a demo may be that
+-- long
 abbrev pub accept_outcome : List Tic → Parts → Outcome
 accept_outcome tics parts =
     if nat_lt most_tics (length parts.before + length tics)
@@ -66,12 +72,12 @@ accept_outcome tics parts =
     else Ok (record { before = parts.before ++ tics; after = [] })
 
 -- The call did what its command comes to. Refused, it left what stood.
-abbrev pub Edits : {D : Type 0} → Result D EditFault → Parts → Parts → Outcome → Type 0
+abbrev pub Edits : {D S : Type 0} → Result D EditFault → S → S → Result S EditFault → Type 0
 Edits (Ok done) old new outcome = outcome ≡ Ok new
 Edits (Err fault) old new outcome = (outcome ≡ Err fault) × (new ≡ old)
 
 -- The same of a call that may find no memory, and then leaves what stood.
-abbrev pub MayEdit : {D : Type 0} → Result D EditFault → Parts → Parts → Outcome → Type 0
+abbrev pub MayEdit : {D S : Type 0} → Result D EditFault → S → S → Result S EditFault → Type 0
 MayEdit (Ok done) old new outcome = outcome ≡ Ok new
 MayEdit (Err Memory) old new outcome = new ≡ old
 MayEdit (Err (Place count)) old new outcome = (outcome ≡ Err (Place count)) × (new ≡ old)

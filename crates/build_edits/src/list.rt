@@ -8,7 +8,8 @@ use lmp_codec::Tic;
 /// Writes the tic over the one at the place, or at the end.
 pub fn put_at(tics: &mut Vec<Tic>, place: usize, tic: Tic) -> Result<(), EditFault>
     requires { place ≤ length tics.old.items }
-    ensures ok { OnOk result (tics.new.items ≡ take place tics.old.items ++ tic ∷ drop (place + 1) tics.old.items) }
+    ensures ok { OnOk result
+        (tics.new.items ≡ take place tics.old.items ++ tic ∷ drop (place + 1) tics.old.items) }
     ensures err { OnErr result (tics.new.items ≡ tics.old.items) }
     ensures memory { OnErr result (result ≡ Err EditFault.Memory) }
 {
@@ -25,7 +26,11 @@ pub fn repeat_at(tics: &mut Vec<Tic>, place: usize, count: usize) -> Result<(), 
     requires before { 0 < place }
     requires inside { place ≤ length tics.old.items }
     requires fits { place + count ≤ most_tics }
-    ensures ok { OnOk result ((tic : Tic) → tics.new.items ≡ take place tics.old.items ++ replicate count (slice_index_or tics.old.items (place - 1) tic) ++ drop (place + count) tics.old.items) }
+    // The tic is read of the list, which has one, so the one that stands for none doesn't matter.
+    ensures ok { OnOk result ((tic : Tic) → tics.new.items
+        ≡ take place tics.old.items
+        ++ replicate count (slice_index_or tics.old.items (place - 1) tic)
+        ++ drop (place + count) tics.old.items) }
     ensures len { OnOk result (length tics.new.items ≡ max (length tics.old.items) (place + count)) }
     ensures err { OnErr result (tics.new.items ≡ tics.old.items) }
     ensures memory { OnErr result (result ≡ Err EditFault.Memory) }

@@ -10,8 +10,9 @@ use std::marker::Model;
 
 /// The tics of a demo that is built, and a cursor: seen as the tics before the cursor and those from it on.
 ///
-/// It has at most as many tics as a demo may have. Each edit does what its command says, or is refused and changes
-/// nothing. An edit at the end takes a constant time, and one before the end the time to move the tics behind it.
+/// It has at most as many tics as a demo may have. Each edit does what its command says, or is refused and
+/// changes nothing. An edit at the end takes a constant time, and one before the end the time to move the
+/// tics behind it.
 #[derive(Debug, Drop)]
 pub struct Tape {
     tics: Vec<Tic>,
@@ -68,8 +69,8 @@ impl Tape {
         Ok(())
     }
 
-    /// Writes the tic over the one at the cursor, or appends it at the end, and moves the cursor behind it. Refused
-    /// with `TooLong` where it would be one tic too many.
+    /// Writes the tic over the one at the cursor, or appends it at the end, and moves the cursor behind it.
+    /// Refused with `TooLong` where it would be one tic too many.
     pub fn put(&mut self, tic: Tic) -> Result<(), EditFault>
         ensures { MayEdit result self.old self.new (put_outcome tic self.old) }
     {
@@ -81,8 +82,8 @@ impl Tape {
         Ok(())
     }
 
-    /// Inserts the tic at the cursor, and moves the cursor behind it. Refused with `TooLong` where it would be one tic
-    /// too many.
+    /// Inserts the tic at the cursor, and moves the cursor behind it. Refused with `TooLong` where it would
+    /// be one tic too many.
     pub fn insert(&mut self, tic: Tic) -> Result<(), EditFault>
         ensures { MayEdit result self.old self.new (insert_outcome tic self.old) }
     {
@@ -94,7 +95,8 @@ impl Tape {
         Ok(())
     }
 
-    /// Removes the tic at the cursor. Refused with `Place` and the number of tics where the cursor is at the end.
+    /// Removes the tic at the cursor. Refused with `Place` and the number of tics where the cursor is at the
+    /// end.
     pub fn delete(&mut self) -> Result<(), EditFault>
         ensures { Edits result self.old self.new (delete_outcome self.old) }
     {
@@ -114,8 +116,8 @@ impl Tape {
         Ok(())
     }
 
-    /// Puts the tic before the cursor so many times more. Refused with `Before` where there is none, and with `TooLong`
-    /// where that would be too many tics.
+    /// Puts the tic before the cursor so many times more. Refused with `Before` where there is none, and with
+    /// `TooLong` where that would be too many tics.
     pub fn repeat(&mut self, count: u32) -> Result<(), EditFault>
         ensures { MayEdit result self.old self.new (repeat_outcome count self.old) }
     {
@@ -131,8 +133,8 @@ impl Tape {
         Ok(())
     }
 
-    /// Puts these tics in place of all tics from the cursor on, and moves the cursor to the end. Refused with `TooLong`
-    /// where that would be too many tics.
+    /// Puts these tics in place of all tics from the cursor on, and moves the cursor to the end. Refused with
+    /// `TooLong` where that would be too many tics.
     pub fn accept(&mut self, tics: &[Tic]) -> Result<(), EditFault>
         ensures { MayEdit result self.old self.new (accept_outcome tics.now self.old) }
     {

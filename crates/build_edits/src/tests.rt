@@ -4,7 +4,7 @@ use std::process::Abort;
 use std::test::Fail;
 
 #[derive(Clone, Copy)]
-enum Edit {
+pub enum Edit {
     Seek(u32),
     Put(i8),
     Insert(i8),
@@ -15,7 +15,7 @@ enum Edit {
 }
 
 /// A tic that moves ahead by so much.
-fn ahead(forward: i8) -> Tic {
+pub fn ahead(forward: i8) -> Tic {
     Tic {
         forward: forward.max(-127),
         side: 0,

@@ -3,4 +3,6 @@ use Rattle.build_edits.proofs.Places.{put_is}
 use Rattle.build_edits.proofs.reel.Tape.put.Goals as goal
 
 pub returns : goal.returns
-returns c = rw (← c.self.view_is) (put_is _ _ _ c.args.tic c.self.invariant.0 (omega arith) c.in_ok-put_at.ensures.ok)
+returns c =
+    rw (← c.self.view_is)
+    (put_is _ _ _ c.args.tic c.self.invariant.0 (omega arith) c.in_ok-put_at.ensures.ok)

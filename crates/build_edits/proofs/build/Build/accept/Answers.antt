@@ -1,0 +1,10 @@
+use Rattle.build_edits.proofs.Builds.{frames_keep, accept_keeps}
+use Rattle.build_edits.proofs.build.Build.accept.Goals as goal
+
+pub invariant_of-self-2 : goal.invariant_of-self-2
+invariant_of-self-2 g c =
+    let old = c.self.inside in
+    let new = c.accept.new.self in
+    frames_keep g.G.Game old.game old.tape new old.frames c.cut.new.self
+    c.cursor-place.result c.cursor-place.ensures.value c.self.invariant
+    (accept_keeps c.args.tics.now old.tape new c.in_ok-accept.ensures) c.cut.ensures.belong

@@ -1,0 +1,2 @@
+pub mod Frames
+pub use Rattle.game_trait.specs.Replay
