@@ -2,11 +2,11 @@
 ghost use Rattle.std.specs.Prelude.{◌≡◌, ◌+◌, ◌*◌, ◌<◌, ◌≤◌, List, [], ◌∷◌, ◌++◌, Some, length, slice_get, slice_set, OnOk, OnErr, IfOk};
 ghost use Rattle.page_store.specs.Pages.{items_of, pieces_of, joined, ArePages, IsStore, page_count};
 
+use crate::base::Base;
 use crate::page::{PAGE_LEN, Page};
 use doom_edge::{Memory, Steps};
 use std::alloc::Global;
 use std::marker::Model;
-use std::sync::Arc;
 
 /// A list of items in pages of 32. A store begins as pages over one base, the items that it was made of. After a
 /// fork two stores share the base and all pages, and each copies a page before it first writes into it; so a fork
@@ -14,7 +14,7 @@ use std::sync::Arc;
 /// item copied, or one page named or made shared.
 #[derive(Drop)]
 pub struct Store<T> {
-    base: Arc<Vec<T>>,
+    base: Base<T>,
     pages: Vec<Page<T>>,
     len: usize,
 }
@@ -24,25 +24,32 @@ impl<T> Model for Store<T> {
 
     ghost Value = { List T };
 
-    ghost use Rattle.std.specs.Arc.{arc_value};
-    ghost use Rattle.page_store.specs.Pages.{pieces_of, joined, IsStore};
+    ghost use Rattle.page_store.specs.Pages.{base_items, pieces_of, joined, IsStore};
 
-    ghost view = { λ store. joined (pieces_of (arc_value store.base).items store.pages.items) };
+    ghost view = { λ store. joined (pieces_of (base_items store.base) store.pages.items) };
 
-    ghost invariant = { λ store. IsStore (pieces_of (arc_value store.base).items store.pages.items) store.len };
+    ghost invariant = { λ store. IsStore (pieces_of (base_items store.base) store.pages.items) store.len };
 }
 
 impl<T: Copy + Send + Sync> Store<T> {
+    /// A store of no items. It takes no memory.
+    pub fn new(alloc: Global) -> Store<T>
+        ensures { result ≡ [] }
+    {
+        Store {
+            base: Base::Empty,
+            pages: Vec::new(alloc),
+            len: 0,
+        }
+    }
+
     /// A store of these items.
     pub fn from_list(alloc: Global, items: Vec<T>) -> Result<Store<T>, Memory>
         ensures { IfOk result (λ store. store ≡ items.items) }
     {
         let pages = pages_over(alloc, &items)?;
         let len = items.len();
-        let base = match Arc::new(alloc, items) {
-            Ok(base) => base,
-            Err(_) => return Err(Memory),
-        };
+        let base = Base::of(alloc, items)?;
         Ok(Store { base, pages, len })
     }
 
@@ -58,7 +65,7 @@ impl<T: Copy + Send + Sync> Store<T> {
         requires { i < length self.now }
         ensures { slice_get self.now i ≡ Some result }
     {
-        item_at(&self.base, &self.pages, i)
+        item_at(self.base.as_slice(), &self.pages, i)
     }
 
     /// Writes an item at a place. On `Memory` the list is as before.
@@ -71,7 +78,7 @@ impl<T: Copy + Send + Sync> Store<T> {
         ensures least { steps.old.pages ≤ steps.new.pages }
         ensures most { steps.new.pages ≤ steps.old.pages + 34 }
     {
-        set_item(&self.base, &mut self.pages, i, item, steps)
+        set_item(self.base.as_slice(), &mut self.pages, i, item, steps)
     }
 
     /// Appends an item. On `Memory` the list is as before.
@@ -86,7 +93,7 @@ impl<T: Copy + Send + Sync> Store<T> {
         if self.len == usize::MAX {
             return Err(Memory);
         }
-        push_item(&self.base, &mut self.pages, self.len, item, steps)?;
+        push_item(self.base.as_slice(), &mut self.pages, self.len, item, steps)?;
         self.len += 1;
         Ok(())
     }
@@ -100,8 +107,8 @@ impl<T: Copy + Send + Sync> Store<T> {
         ensures least { steps.old.pages ≤ steps.new.pages }
         ensures most { steps.new.pages ≤ steps.old.pages + 2 * page_count (length self.old) }
     {
-        let pages = share_all(&self.base, &mut self.pages, steps)?;
-        let base = Arc::try_clone(&self.base)?;
+        let pages = share_all(self.base.as_slice(), &mut self.pages, steps)?;
+        let base = self.base.name_again()?;
         Ok(Store {
             base,
             pages,
@@ -231,14 +238,14 @@ mod tests {
         let mut origin = counting(rt.alloc(), 100)?;
         let mut steps = Steps::new();
         let mut forked = origin.fork(&mut steps)?;
-        assert_eq!(rt; steps.pages(), 8);
+        assert_eq!(rt; steps.pages(), 4);
         assert_eq!(rt; forked.len(), 100);
         assert_eq!(rt; forked.get(99), 99);
 
         forked.set(40, 7, &mut steps)?;
-        assert_eq!(rt; steps.pages(), 8 + 33);
+        assert_eq!(rt; steps.pages(), 4 + 33);
         forked.set(41, 8, &mut steps)?;
-        assert_eq!(rt; steps.pages(), 8 + 34);
+        assert_eq!(rt; steps.pages(), 4 + 34);
         assert_eq!(rt; origin.get(40), 40);
         assert_eq!(rt; origin.get(41), 41);
 
