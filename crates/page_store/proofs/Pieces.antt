@@ -1,10 +1,13 @@
 -- Lists in pieces of 32: piece k begins at item 32 * k.
-use Rattle.std.proofs.Common.{◌≡◌, ℕ, ◌+◌, ◌-◌, ◌*◌, ◌/◌, ◌%◌, ◌<◌, ◌≤◌, List, Some, [], ◌∷◌, ◌++◌, length, get_or, set, take, slice_get, Result, Ok, Err, OnErr, refl, sym, ap, ◌∙◌, arith, length-append, append_assoc, zero, suc}
-use Rattle.std.proofs.lemmas.List.{append-nil, get_or_append_left, get_or-append_right, set-append_left, set-append_right, length-map, get_or-map, map-set, set-get_or, map-append, take_more}
+use Rattle.std.proofs.Common.{◌≡◌, ℕ, ◌+◌, ◌-◌, ◌*◌, ◌/◌, ◌%◌, ◌<◌, ◌≤◌, ◌⊎◌, inl, inr, List, Some, [], ◌∷◌, ◌++◌, length, get_or, set, take, drop, min, slice_get, Result, Ok, Err, OnErr, refl, sym, ap, ◌∙◌, arith, length-append, append_assoc, zero, suc}
+use Rattle.std.proofs.Math.Seq.{take-add}
+use Rattle.std.proofs.lemmas.List.{append-nil, length-take, length-drop, take_all, take_min, drop_all, get_or-take, get_or_append_left, get_or-append_right, set-append_left, set-append_right, length-map, get_or-map, map-set, set-get_or, map-append, take_more}
+use Rattle.std.proofs.lemmas.Bool.{cases_lt}
 use Rattle.std.proofs.lemmas.Grind.{flat_map-append}
-use Rattle.std.proofs.lemmas.Option.{slice_get-get_or}
+use Rattle.std.proofs.lemmas.Option.{slice_get-get_or, get_or_from_slice_get}
 use Rattle.page_store.specs.Pages.{items_of, pieces_of, joined, ArePages, IsStore, page_count}
 use Rattle.page_store.specs.declared.page.Page.{Page}
+use Rattle.page_store.specs.declared.page.Page.TheVariants.{Based}
 
 -- a place of the list is a place of a piece
 pub place : {X : Type 0} (ps : List (List X)) (k r : ℕ) → ArePages ps → r < 32 → 32 * k + r < length (joined ps)
@@ -104,67 +107,102 @@ length-pages [] paged = refl
 length-pages (p ∷ []) paged = omega (arith, paged, length-append p [])
 length-pages (p ∷ q ∷ rest) paged = omega (arith, paged.0, length-append p (joined (q ∷ rest)), length-pages (q ∷ rest) paged.1)
 
+-- what is dropped past the end is all
+pub front_dropped : {X : Type 0} (base : List X) (start from : ℕ) → from ≡ min start (length base)
+    → (length base < start) ⊎ (start ≤ length base) → drop from base ≡ drop start base
+front_dropped base start from from_is (inl past) =
+    drop_all from base (omega (arith, from_is, past)) ∙ sym (drop_all start base (omega (arith, past)))
+front_dropped base start from from_is (inr within) =
+    ap (λ n. drop n base) (let e : from ≡ start = omega (arith, from_is, within) in e)
+
+-- the part of a base that a page takes, cut from the base at two places that are within it
+pub part_is : {X : Type 0} (base : List X) (start from size : ℕ) → from ≡ min start (length base)
+    → size ≡ min (length (take (length base - from) (drop from base))) 32
+    → take size (take (length base - from) (drop from base)) ≡ take 32 (drop start base)
+part_is base start from size from_is size_is =
+    let left = length-drop from base in
+    let rest : take (length base - from) (drop from base) ≡ drop from base = take_all (length base - from) (drop from base) (omega (arith, left)) in
+    let few : size ≡ min 32 (length (drop from base)) = omega (arith, size_is, ap length rest) in
+    ap (take size) rest ∙ ap (λ n. take n (drop from base)) few ∙ take_min 32 (drop from base) ∙ ap (take 32) (front_dropped base start from from_is (cases_lt (length base) start))
+
+-- an item of a page over the base is an item of what is left of the base there
+pub based_within : {X : Type 0} (base : List X) (start at : ℕ) → at < length (take 32 (drop start base))
+    → at < length (take (length base - start) (drop start base))
+based_within base start at there =
+    omega (arith, there, length-take 32 (drop start base), length-take (length base - start) (drop start base), length-drop start base)
+
+pub based_item : {X : Type 0} (base : List X) (start at : ℕ) (item : X) → at < length (take 32 (drop start base))
+    → item ≡ get_or (take (length base - start) (drop start base)) at item → slice_get (take 32 (drop start base)) at ≡ Some item
+based_item base start at item there is =
+    let size = length-take 32 (drop start base) in
+    let left = length-drop start base in
+    slice_get-get_or (take 32 (drop start base)) at item there
+    ∙ ap Some (
+    get_or-take 32 (drop start base) at item (omega (arith, there, size))
+    ∙ sym (get_or-take (length base - start) (drop start base) at item (omega (arith, there, size, left)))
+    ∙ sym is)
+
 -- item i is in page i / 32, at i % 32
 halves : (i : ℕ) → 32 * (i / 32) + i % 32 ≡ i
 halves i = omega arith
 
 -- the page of item i is there
-pub place_of : {T : Type 0} (pages : List (Page T)) (i : ℕ) → ArePages (pieces_of pages) → i < length (joined (pieces_of pages))
-    → (i / 32 < length pages) × (i % 32 < length (get_or (pieces_of pages) (i / 32) []))
-place_of pages i paged there =
-    let found = place (pieces_of pages) (i / 32) (i % 32) paged (omega arith) (omega arith) in
-    (omega (arith, found.0, length-map pages items_of), found.1)
+pub place_of : {T : Type 0} (base : List T) (pages : List (Page T)) (i : ℕ) → ArePages (pieces_of base pages) → i < length (joined (pieces_of base pages))
+    → (i / 32 < length pages) × (i % 32 < length (get_or (pieces_of base pages) (i / 32) []))
+place_of base pages i paged there =
+    let found = place (pieces_of base pages) (i / 32) (i % 32) paged (omega arith) (omega arith) in
+    (omega (arith, found.0, length-map pages (items_of base)), found.1)
 
 -- and has the item
-pub page_is : {T : Type 0} (pages : List (Page T)) (k : ℕ) (page : Page T) → k < length pages → page ≡ get_or pages k page
-    → get_or (pieces_of pages) k [] ≡ items_of page
-page_is pages k page there is = get_or-map items_of pages k page [] there ∙ ap items_of (sym is)
+pub page_is : {T : Type 0} (base : List T) (pages : List (Page T)) (k : ℕ) (page : Page T) → k < length pages → page ≡ get_or pages k page
+    → get_or (pieces_of base pages) k [] ≡ items_of base page
+page_is base pages k page there is = get_or-map (items_of base) pages k page [] there ∙ ap (items_of base) (sym is)
 
 -- the place of item i in its page is within the page
-pub item_within : {T : Type 0} (pages : List (Page T)) (i : ℕ) (page : Page T) → ArePages (pieces_of pages) → i < length (joined (pieces_of pages))
-    → page ≡ get_or pages (i / 32) page → i % 32 < length (items_of page)
-item_within pages i page paged there is =
-    let found = place_of pages i paged there in
-    omega (arith, found.1, ap length (page_is pages (i / 32) page found.0 is))
+pub item_within : {T : Type 0} (base : List T) (pages : List (Page T)) (i : ℕ) (page : Page T) → ArePages (pieces_of base pages) → i < length (joined (pieces_of base pages))
+    → page ≡ get_or pages (i / 32) page → i % 32 < length (items_of base page)
+item_within base pages i page paged there is =
+    let found = place_of base pages i paged there in
+    omega (arith, found.1, ap length (page_is base pages (i / 32) page found.0 is))
 
 -- and there stands item i
-pub item_of : {T : Type 0} (pages : List (Page T)) (i : ℕ) (page : Page T) (item : T) → ArePages (pieces_of pages) → i < length (joined (pieces_of pages))
-    → page ≡ get_or pages (i / 32) page → item ≡ get_or (items_of page) (i % 32) item
-    → slice_get (joined (pieces_of pages)) i ≡ Some item
-item_of pages i page item paged there page_here item_here =
-    let found = place_of pages i paged there in
-    slice_get-get_or (joined (pieces_of pages)) i item there
+pub item_of : {T : Type 0} (base : List T) (pages : List (Page T)) (i : ℕ) (page : Page T) (item : T) → ArePages (pieces_of base pages) → i < length (joined (pieces_of base pages))
+    → page ≡ get_or pages (i / 32) page → slice_get (items_of base page) (i % 32) ≡ Some item
+    → slice_get (joined (pieces_of base pages)) i ≡ Some item
+item_of base pages i page item paged there page_here item_here =
+    let found = place_of base pages i paged there in
+    slice_get-get_or (joined (pieces_of base pages)) i item there
     ∙ ap Some (
-    ap (λ place. get_or (joined (pieces_of pages)) place item) (sym (halves i))
-    ∙ get_or-joined (pieces_of pages) (i / 32) (i % 32) item paged (omega arith) (omega arith)
-    ∙ ap (λ items. get_or items (i % 32) item) (page_is pages (i / 32) page found.0 page_here)
-    ∙ sym item_here)
+    ap (λ place. get_or (joined (pieces_of base pages)) place item) (sym (halves i))
+    ∙ get_or-joined (pieces_of base pages) (i / 32) (i % 32) item paged (omega arith) (omega arith)
+    ∙ ap (λ items. get_or items (i % 32) item) (page_is base pages (i / 32) page found.0 page_here)
+    ∙ get_or_from_slice_get (items_of base page) (i % 32) item item item_here)
 
 -- item i is written by writing it into its page
-pub written : {T : Type 0} (pages : List (Page T)) (i : ℕ) (page after : Page T) (item : T) → ArePages (pieces_of pages) → i < length (joined (pieces_of pages))
-    → page ≡ get_or pages (i / 32) page → items_of after ≡ set (items_of page) (i % 32) item
-    → joined (pieces_of (set pages (i / 32) after)) ≡ set (joined (pieces_of pages)) i item
-written pages i page after item paged there page_here is =
-    let found = place_of pages i paged there in
-    let piece = is ∙ ap (λ items. set items (i % 32) item) (sym (page_is pages (i / 32) page found.0 page_here)) in
-    ap joined (map-set items_of pages (i / 32) after ∙ ap (λ items. set (pieces_of pages) (i / 32) items) piece)
-    ∙ set-joined (pieces_of pages) (i / 32) (i % 32) item paged (omega arith) (omega arith)
-    ∙ ap (λ place. set (joined (pieces_of pages)) place item) (halves i)
+pub written : {T : Type 0} (base : List T) (pages : List (Page T)) (i : ℕ) (page after : Page T) (item : T) → ArePages (pieces_of base pages) → i < length (joined (pieces_of base pages))
+    → page ≡ get_or pages (i / 32) page → items_of base after ≡ set (items_of base page) (i % 32) item
+    → joined (pieces_of base (set pages (i / 32) after)) ≡ set (joined (pieces_of base pages)) i item
+written base pages i page after item paged there page_here is =
+    let found = place_of base pages i paged there in
+    let piece = is ∙ ap (λ items. set items (i % 32) item) (sym (page_is base pages (i / 32) page found.0 page_here)) in
+    ap joined (map-set (items_of base) pages (i / 32) after ∙ ap (λ items. set (pieces_of base pages) (i / 32) items) piece)
+    ∙ set-joined (pieces_of base pages) (i / 32) (i % 32) item paged (omega arith) (omega arith)
+    ∙ ap (λ place. set (joined (pieces_of base pages)) place item) (halves i)
 
 -- a page may be replaced by one of as many items
-pub paged_after : {T : Type 0} (pages : List (Page T)) (k : ℕ) (page after : Page T) → ArePages (pieces_of pages) → k < length pages
-    → page ≡ get_or pages k page → length (items_of after) ≡ length (items_of page)
-    → ArePages (pieces_of (set pages k after))
-paged_after pages k page after paged there page_here same =
-    rw map-set (ArePages-set (pieces_of pages) k (items_of after) paged (same ∙ sym (ap length (page_is pages k page there page_here))))
+pub paged_after : {T : Type 0} (base : List T) (pages : List (Page T)) (k : ℕ) (page after : Page T) → ArePages (pieces_of base pages) → k < length pages
+    → page ≡ get_or pages k page → length (items_of base after) ≡ length (items_of base page)
+    → ArePages (pieces_of base (set pages k after))
+paged_after base pages k page after paged there page_here same =
+    rw map-set (ArePages-set (pieces_of base pages) k (items_of base after) paged (same ∙ sym (ap length (page_is base pages k page there page_here))))
 
 -- a page that is replaced by one of the same items changes nothing
-pub pieces_stay : {T : Type 0} (pages : List (Page T)) (k : ℕ) (page after : Page T) → k < length pages → page ≡ get_or pages k page → items_of after ≡ items_of page
-    → pieces_of (set pages k after) ≡ pieces_of pages
-pieces_stay pages k page after there page_here same =
-    map-set items_of pages k after
-    ∙ ap (λ items. set (pieces_of pages) k items) (same ∙ sym (page_is pages k page there page_here))
-    ∙ set-get_or (pieces_of pages) k []
+pub pieces_stay : {T : Type 0} (base : List T) (pages : List (Page T)) (k : ℕ) (page after : Page T) → k < length pages → page ≡ get_or pages k page → items_of base after ≡ items_of base page
+    → pieces_of base (set pages k after) ≡ pieces_of base pages
+pieces_stay base pages k page after there page_here same =
+    map-set (items_of base) pages k after
+    ∙ ap (λ items. set (pieces_of base pages) k items) (same ∙ sym (page_is base pages k page there page_here))
+    ∙ set-get_or (pieces_of base pages) k []
 
 -- a page has at most 32 items
 pub page_fits : {X : Type 0} (ps : List (List X)) (k : ℕ) → ArePages ps → length (get_or ps k []) ≤ 32
@@ -175,51 +213,71 @@ page_fits (p ∷ q ∷ rest) zero paged = omega (arith, paged.0)
 page_fits (p ∷ q ∷ rest) (suc k) paged = page_fits (q ∷ rest) k paged.1
 
 -- the page of a place has at most 32 items
-pub page_small : {T : Type 0} (pages : List (Page T)) (k : ℕ) (page : Page T) → ArePages (pieces_of pages) → k < length pages → page ≡ get_or pages k page
-    → length (items_of page) ≤ 32
-page_small pages k page paged there is = omega (arith, page_fits (pieces_of pages) k paged, ap length (page_is pages k page there is))
+pub page_small : {T : Type 0} (base : List T) (pages : List (Page T)) (k : ℕ) (page : Page T) → ArePages (pieces_of base pages) → k < length pages → page ≡ get_or pages k page
+    → length (items_of base page) ≤ 32
+page_small base pages k page paged there is = omega (arith, page_fits (pieces_of base pages) k paged, ap length (page_is base pages k page there is))
 
 -- a new page after full ones
-pub pushed : {T : Type 0} (pages : List (Page T)) (len : ℕ) (page : Page T) (item : T) → IsStore (pieces_of pages) len → len % 32 ≡ 0
-    → items_of page ≡ item ∷ []
-    → ArePages (pieces_of (pages ++ page ∷ [])) × (joined (pieces_of (pages ++ page ∷ [])) ≡ joined (pieces_of pages) ++ item ∷ [])
-pushed {T = T} pages len page item store full one =
-    let same : pieces_of (pages ++ page ∷ []) ≡ pieces_of pages ++ (item ∷ []) ∷ [] =
-    map-append items_of pages (page ∷ []) ∙ ap (λ items. pieces_of pages ++ items ∷ []) one in (
-      rw same (ArePages-push (pieces_of pages) (len / 32) (item ∷ []) store.paged (omega (arith, store.counted)) (omega arith) (omega arith)),
-      rw same (flat_map-append (λ piece. piece) (pieces_of pages) ((item ∷ []) ∷ [])),
+pub pushed : {T : Type 0} (base : List T) (pages : List (Page T)) (len : ℕ) (page : Page T) (item : T) → IsStore (pieces_of base pages) len → len % 32 ≡ 0
+    → items_of base page ≡ item ∷ []
+    → ArePages (pieces_of base (pages ++ page ∷ [])) × (joined (pieces_of base (pages ++ page ∷ [])) ≡ joined (pieces_of base pages) ++ item ∷ [])
+pushed {T = T} base pages len page item store full one =
+    let same : pieces_of base (pages ++ page ∷ []) ≡ pieces_of base pages ++ (item ∷ []) ∷ [] =
+    map-append (items_of base) pages (page ∷ []) ∙ ap (λ items. pieces_of base pages ++ items ∷ []) one in (
+      rw same (ArePages-push (pieces_of base pages) (len / 32) (item ∷ []) store.paged (omega (arith, store.counted)) (omega arith) (omega arith)),
+      rw same (flat_map-append (λ piece. piece) (pieces_of base pages) ((item ∷ []) ∷ [])),
     )
 
 -- the last page, where it has room
-pub last_is_there : {T : Type 0} (pages : List (Page T)) (len : ℕ) → IsStore (pieces_of pages) len → (len % 32 ≡ 0 → ⊥) → length pages ≡ len / 32 + 1
-last_is_there pages len store room =
-    omega (arith, length-map pages items_of, (last_page (pieces_of pages) (len / 32) (len % 32) store.paged (omega (arith, store.counted)) (omega (arith, room)) (omega arith)).0)
+pub last_is_there : {T : Type 0} (base : List T) (pages : List (Page T)) (len : ℕ) → IsStore (pieces_of base pages) len → (len % 32 ≡ 0 → ⊥) → length pages ≡ len / 32 + 1
+last_is_there base pages len store room =
+    omega (arith, length-map pages (items_of base), (last_page (pieces_of base pages) (len / 32) (len % 32) store.paged (omega (arith, store.counted)) (omega (arith, room)) (omega arith)).0)
 
 -- and an item more in it
-pub grown : {T : Type 0} (pages : List (Page T)) (len : ℕ) (page after : Page T) (item : T) → IsStore (pieces_of pages) len → (len % 32 ≡ 0 → ⊥)
-    → page ≡ get_or pages (len / 32) page → items_of after ≡ items_of page ++ item ∷ []
-    → ArePages (pieces_of (set pages (len / 32) after)) × (joined (pieces_of (set pages (len / 32) after)) ≡ joined (pieces_of pages) ++ item ∷ [])
-grown pages len page after item store room page_here is =
-    let last = last_page (pieces_of pages) (len / 32) (len % 32) store.paged (omega (arith, store.counted)) (omega (arith, room)) (omega arith) in
-    let there : len / 32 < length pages = omega (arith, last_is_there pages len store room) in
-    let piece : items_of after ≡ get_or (pieces_of pages) (len / 32) [] ++ item ∷ [] =
-    is ∙ ap (λ items. items ++ item ∷ []) (sym (page_is pages (len / 32) page there page_here)) in
-    let same : pieces_of (set pages (len / 32) after) ≡ set (pieces_of pages) (len / 32) (get_or (pieces_of pages) (len / 32) [] ++ item ∷ []) =
-    map-set items_of pages (len / 32) after ∙ ap (λ items. set (pieces_of pages) (len / 32) items) piece in
-    let longer = length-append (get_or (pieces_of pages) (len / 32) []) (item ∷ []) in (
-      rw same (ArePages_grown (pieces_of pages) (len / 32) (get_or (pieces_of pages) (len / 32) [] ++ item ∷ []) store.paged last.0 (omega (arith, longer)) (omega (arith, longer, last.1))),
-      rw same (joined_grown (pieces_of pages) (len / 32) (item ∷ []) last.0),
+pub grown : {T : Type 0} (base : List T) (pages : List (Page T)) (len : ℕ) (page after : Page T) (item : T) → IsStore (pieces_of base pages) len → (len % 32 ≡ 0 → ⊥)
+    → page ≡ get_or pages (len / 32) page → items_of base after ≡ items_of base page ++ item ∷ []
+    → ArePages (pieces_of base (set pages (len / 32) after)) × (joined (pieces_of base (set pages (len / 32) after)) ≡ joined (pieces_of base pages) ++ item ∷ [])
+grown base pages len page after item store room page_here is =
+    let last = last_page (pieces_of base pages) (len / 32) (len % 32) store.paged (omega (arith, store.counted)) (omega (arith, room)) (omega arith) in
+    let there : len / 32 < length pages = omega (arith, last_is_there base pages len store room) in
+    let piece : items_of base after ≡ get_or (pieces_of base pages) (len / 32) [] ++ item ∷ [] =
+    is ∙ ap (λ items. items ++ item ∷ []) (sym (page_is base pages (len / 32) page there page_here)) in
+    let same : pieces_of base (set pages (len / 32) after) ≡ set (pieces_of base pages) (len / 32) (get_or (pieces_of base pages) (len / 32) [] ++ item ∷ []) =
+    map-set (items_of base) pages (len / 32) after ∙ ap (λ items. set (pieces_of base pages) (len / 32) items) piece in
+    let longer = length-append (get_or (pieces_of base pages) (len / 32) []) (item ∷ []) in (
+      rw same (ArePages_grown (pieces_of base pages) (len / 32) (get_or (pieces_of base pages) (len / 32) [] ++ item ∷ []) store.paged last.0 (omega (arith, longer)) (omega (arith, longer, last.1))),
+      rw same (joined_grown (pieces_of base pages) (len / 32) (item ∷ []) last.0),
+    )
+
+-- The pages over a base, one after the other: all pages so far are full, and the next one takes what comes next.
+pub based_more : {T : Type 0} (base : List T) (pages : List (Page T)) (k : ℕ) → ArePages (pieces_of base pages)
+    → joined (pieces_of base pages) ≡ take (32 * k) base → 32 * k < length base
+    → ArePages (pieces_of base (pages ++ Based (32 * k) ∷ [])) × (joined (pieces_of base (pages ++ Based (32 * k) ∷ [])) ≡ take (32 * (k + 1)) base)
+based_more base pages k paged so_far there =
+    let piece : items_of base (Based (32 * k)) ≡ take 32 (drop (32 * k) base) = refl in
+    let same : pieces_of base (pages ++ Based (32 * k) ∷ []) ≡ pieces_of base pages ++ take 32 (drop (32 * k) base) ∷ [] =
+    map-append (items_of base) pages (Based (32 * k) ∷ []) in
+    let full : length (joined (pieces_of base pages)) ≡ 32 * k = omega (arith, ap length so_far, length-take (32 * k) base) in
+    let size = length-take 32 (drop (32 * k) base) in
+    let left = length-drop (32 * k) base in (
+      rw same (ArePages-push (pieces_of base pages) k (take 32 (drop (32 * k) base)) paged full (omega (arith, size, left)) (omega (arith, size))),
+      rw same (
+          flat_map-append (λ piece. piece) (pieces_of base pages) (take 32 (drop (32 * k) base) ∷ [])
+          ∙ ap (λ items. joined (pieces_of base pages) ++ items) (append-nil (take 32 (drop (32 * k) base)))
+          ∙ ap (λ items. items ++ take 32 (drop (32 * k) base)) so_far
+          ∙ sym (take-add (32 * k) 32 base)
+          ∙ ap (λ n. take n base) (let e : 32 * k + 32 ≡ 32 * (k + 1) = omega arith in e)),
     )
 
 -- one more page has a second name
-pub named_more : {T : Type 0} (named : List (Page T)) (pieces : List (List T)) (k : ℕ) (pages : List (Page T)) (page more : Page T)
-    → pieces_of named ≡ take k pieces → pieces_of pages ≡ pieces → k < length pages → page ≡ get_or pages k page → items_of more ≡ items_of page
-    → pieces_of (named ++ more ∷ []) ≡ take (k + 1) pieces
-named_more named pieces k pages page more so_far same there page_here is =
-    let within : k < length pieces = omega (arith, ap length same, length-map pages items_of) in
-    map-append items_of named (more ∷ [])
-    ∙ ap (λ items. items ++ items_of more ∷ []) so_far
-    ∙ ap (λ items. take k pieces ++ items ∷ []) (is ∙ sym (page_is pages k page there page_here) ∙ ap (λ items. get_or items k []) same)
+pub named_more : {T : Type 0} (base : List T) (named : List (Page T)) (pieces : List (List T)) (k : ℕ) (pages : List (Page T)) (page more : Page T)
+    → pieces_of base named ≡ take k pieces → pieces_of base pages ≡ pieces → k < length pages → page ≡ get_or pages k page → items_of base more ≡ items_of base page
+    → pieces_of base (named ++ more ∷ []) ≡ take (k + 1) pieces
+named_more base named pieces k pages page more so_far same there page_here is =
+    let within : k < length pieces = omega (arith, ap length same, length-map pages (items_of base)) in
+    map-append (items_of base) named (more ∷ [])
+    ∙ ap (λ items. items ++ items_of base more ∷ []) so_far
+    ∙ ap (λ items. take k pieces ++ items ∷ []) (is ∙ sym (page_is base pages k page there page_here) ∙ ap (λ items. get_or items k []) same)
     ∙ sym (take_more pieces k [] within)
 
 -- a fact that holds at an error

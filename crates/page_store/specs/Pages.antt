@@ -1,18 +1,26 @@
 -- A list in pages.
-use Rattle.std.specs.Prelude.{◌≡◌, ℕ, ◌+◌, ◌/◌, ◌<◌, ◌≤◌, List, [], ◌∷◌, map, length}
+use Rattle.std.specs.Prelude.{◌≡◌, ℕ, ◌+◌, ◌/◌, ◌<◌, ◌≤◌, List, [], ◌∷◌, map, length, take, drop}
 use Rattle.std.specs.List.{flat_map}
 use Rattle.std.specs.Arc.{arc_value}
+use Rattle.page_store.specs.declared.base.Base.{Base}
+use Rattle.page_store.specs.declared.base.Base.TheVariants as base
 use Rattle.page_store.specs.declared.page.Page.{Page}
-use Rattle.page_store.specs.declared.page.Page.TheVariants.{Owned, Shared}
+use Rattle.page_store.specs.declared.page.Page.TheVariants.{Based, Owned, Shared}
 
--- the items of a page
-abbrev pub items_of : {T : Type 0} → Page T → List T
-items_of (Owned items) = items.items
-items_of (Shared items) = (arc_value items).items
+-- the items that a store was made of
+abbrev pub base_items : {T : Type 0} → Base T → List T
+base_items base.Empty = []
+base_items (base.Shared items) = (arc_value items).items
+
+-- the items of a page: so many of the base from a place on, or the page's own
+abbrev pub items_of : {T : Type 0} → List T → Page T → List T
+items_of base (Based start) = take 32 (drop start base)
+items_of base (Owned items) = items.items
+items_of base (Shared items) = (arc_value items).items
 
 -- the items of each page
-abbrev pub pieces_of : {T : Type 0} → List (Page T) → List (List T)
-pieces_of pages = map items_of pages
+abbrev pub pieces_of : {T : Type 0} → List T → List (Page T) → List (List T)
+pieces_of base pages = map (items_of base) pages
 
 -- the pieces one after the other
 abbrev pub joined : {T : Type 0} → List (List T) → List T

@@ -1,6 +1,7 @@
 //! A list in pages, which two owners can share until one of them writes.
 #![tactic(auto)]
 
+mod base;
 mod page;
 mod store;
 

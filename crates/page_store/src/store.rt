@@ -2,15 +2,19 @@
 ghost use Rattle.std.specs.Prelude.{◌≡◌, ◌+◌, ◌*◌, ◌<◌, ◌≤◌, List, [], ◌∷◌, ◌++◌, Some, length, slice_get, slice_set, OnOk, OnErr, IfOk};
 ghost use Rattle.page_store.specs.Pages.{items_of, pieces_of, joined, ArePages, IsStore, page_count};
 
+use crate::base::Base;
 use crate::page::{PAGE_LEN, Page};
 use doom_edge::{Memory, Steps};
 use std::alloc::Global;
 use std::marker::Model;
 
-/// A list of items in pages of 32. After a fork two stores share all pages, and each copies a page before
-/// it first writes into it. A page step is one item copied, or one page named or made shared.
+/// A list of items in pages of 32. A store begins as pages over one base, the items that it was made of. After a
+/// fork two stores share the base and all pages, and each copies a page before it first writes into it; so a fork
+/// touches no count of owners but the base's and those of the pages that were written since. A page step is one
+/// item copied, or one page named or made shared.
 #[derive(Drop)]
 pub struct Store<T> {
+    base: Base<T>,
     pages: Vec<Page<T>>,
     len: usize,
 }
@@ -20,26 +24,33 @@ impl<T> Model for Store<T> {
 
     ghost Value = { List T };
 
-    ghost use Rattle.page_store.specs.Pages.{pieces_of, joined, IsStore};
+    ghost use Rattle.page_store.specs.Pages.{base_items, pieces_of, joined, IsStore};
 
-    ghost view = { λ store. joined (pieces_of store.pages.items) };
+    ghost view = { λ store. joined (pieces_of (base_items store.base) store.pages.items) };
 
-    ghost invariant = { λ store. IsStore (pieces_of store.pages.items) store.len };
+    ghost invariant = { λ store. IsStore (pieces_of (base_items store.base) store.pages.items) store.len };
 }
 
 impl<T: Copy + Send + Sync> Store<T> {
+    /// A store of no items. It takes no memory.
+    pub fn new(alloc: Global) -> Store<T>
+        ensures { result ≡ [] }
+    {
+        Store {
+            base: Base::Empty,
+            pages: Vec::new(alloc),
+            len: 0,
+        }
+    }
+
     /// A store of these items.
     pub fn from_list(alloc: Global, items: Vec<T>) -> Result<Store<T>, Memory>
         ensures { IfOk result (λ store. store ≡ items.items) }
     {
-        let mut store = Store {
-            pages: Vec::new(alloc),
-            len: 0,
-        };
-        for item in &items {
-            store.push(*item, &mut Steps::new())?;
-        }
-        Ok(store)
+        let pages = pages_over(alloc, &items)?;
+        let len = items.len();
+        let base = Base::of(alloc, items)?;
+        Ok(Store { base, pages, len })
     }
 
     /// How many items there are.
@@ -54,7 +65,7 @@ impl<T: Copy + Send + Sync> Store<T> {
         requires { i < length self.now }
         ensures { slice_get self.now i ≡ Some result }
     {
-        item_at(&self.pages, i)
+        item_at(self.base.as_slice(), &self.pages, i)
     }
 
     /// Writes an item at a place. On `Memory` the list is as before.
@@ -67,7 +78,7 @@ impl<T: Copy + Send + Sync> Store<T> {
         ensures least { steps.old.pages ≤ steps.new.pages }
         ensures most { steps.new.pages ≤ steps.old.pages + 34 }
     {
-        set_item(&mut self.pages, i, item, steps)
+        set_item(self.base.as_slice(), &mut self.pages, i, item, steps)
     }
 
     /// Appends an item. On `Memory` the list is as before.
@@ -82,7 +93,7 @@ impl<T: Copy + Send + Sync> Store<T> {
         if self.len == usize::MAX {
             return Err(Memory);
         }
-        push_item(&mut self.pages, self.len, item, steps)?;
+        push_item(self.base.as_slice(), &mut self.pages, self.len, item, steps)?;
         self.len += 1;
         Ok(())
     }
@@ -96,54 +107,70 @@ impl<T: Copy + Send + Sync> Store<T> {
         ensures least { steps.old.pages ≤ steps.new.pages }
         ensures most { steps.new.pages ≤ steps.old.pages + 2 * page_count (length self.old) }
     {
-        let pages = share_all(&mut self.pages, steps)?;
+        let pages = share_all(self.base.as_slice(), &mut self.pages, steps)?;
+        let base = self.base.name_again()?;
         Ok(Store {
+            base,
             pages,
             len: self.len,
         })
     }
 }
 
-// The item at a place of the pages.
-fn item_at<T: Copy>(pages: &[Page<T>], i: usize) -> T
-    requires paged { ArePages (pieces_of pages.now) }
-    requires there { i < length (joined (pieces_of pages.now)) }
-    ensures { slice_get (joined (pieces_of pages.now)) i ≡ Some result }
+// The pages over a base.
+fn pages_over<T: Copy>(alloc: Global, base: &[T]) -> Result<Vec<Page<T>>, Memory>
+    ensures { IfOk result (λ pages. ArePages (pieces_of base.now pages.items) × (joined (pieces_of base.now pages.items) ≡ base.now)) }
 {
-    pages[i / PAGE_LEN].items()[i % PAGE_LEN]
+    let count = base.len().div_ceil(PAGE_LEN);
+    let mut pages = Vec::with_capacity(alloc, count)?;
+    for k in 0..count {
+        pages.push(Page::Based(PAGE_LEN * k))?;
+    }
+    Ok(pages)
+}
+
+// The item at a place of the pages.
+fn item_at<T: Copy>(base: &[T], pages: &[Page<T>], i: usize) -> T
+    requires paged { ArePages (pieces_of base.now pages.now) }
+    requires there { i < length (joined (pieces_of base.now pages.now)) }
+    ensures { slice_get (joined (pieces_of base.now pages.now)) i ≡ Some result }
+{
+    pages[i / PAGE_LEN].item(base, i % PAGE_LEN)
 }
 
 // Writes an item at a place of the pages.
 fn set_item<T: Copy>(
+    base: &[T],
     pages: &mut Vec<Page<T>>,
     i: usize,
     item: T,
     steps: &mut Steps,
 ) -> Result<(), Memory>
-    requires paged { ArePages (pieces_of pages.old.items) }
-    requires there { i < length (joined (pieces_of pages.old.items)) }
-    ensures paged { ArePages (pieces_of pages.new.items) }
-    ensures ok { OnOk result (joined (pieces_of pages.new.items) ≡ slice_set (joined (pieces_of pages.old.items)) i item) }
-    ensures err { OnErr result (joined (pieces_of pages.new.items) ≡ joined (pieces_of pages.old.items)) }
+    requires paged { ArePages (pieces_of base.now pages.old.items) }
+    requires there { i < length (joined (pieces_of base.now pages.old.items)) }
+    ensures paged { ArePages (pieces_of base.now pages.new.items) }
+    ensures ok { OnOk result (joined (pieces_of base.now pages.new.items) ≡ slice_set (joined (pieces_of base.now pages.old.items)) i item) }
+    ensures err { OnErr result (joined (pieces_of base.now pages.new.items) ≡ joined (pieces_of base.now pages.old.items)) }
     ensures tics { steps.new.tics ≡ steps.old.tics }
     ensures least { steps.old.pages ≤ steps.new.pages }
     ensures most { steps.new.pages ≤ steps.old.pages + 34 }
 {
     let alloc = *pages.allocator();
-    pages[i / PAGE_LEN].set(alloc, i % PAGE_LEN, item, steps)?;
+    pages[i / PAGE_LEN].set(alloc, base, i % PAGE_LEN, item, steps)?;
     Ok(())
 }
 
 // Appends an item to the pages, which have `len` items: to the last page where it has room, else to a new one.
 fn push_item<T: Copy>(
+    base: &[T],
     pages: &mut Vec<Page<T>>,
     len: usize,
     item: T,
     steps: &mut Steps,
 ) -> Result<(), Memory>
-    requires { IsStore (pieces_of pages.old.items) len }
-    ensures ok { OnOk result (ArePages (pieces_of pages.new.items) × (joined (pieces_of pages.new.items) ≡ joined (pieces_of pages.old.items) ++ item ∷ [])) }
-    ensures err { OnErr result (pieces_of pages.new.items ≡ pieces_of pages.old.items) }
+    requires { IsStore (pieces_of base.now pages.old.items) len }
+    ensures ok { OnOk result (ArePages (pieces_of base.now pages.new.items) × (joined (pieces_of base.now pages.new.items) ≡ joined (pieces_of base.now pages.old.items) ++ item ∷ [])) }
+    ensures err { OnErr result (pieces_of base.now pages.new.items ≡ pieces_of base.now pages.old.items) }
     ensures tics { steps.new.tics ≡ steps.old.tics }
     ensures least { steps.old.pages ≤ steps.new.pages }
     ensures most { steps.new.pages ≤ steps.old.pages + 34 }
@@ -154,14 +181,18 @@ fn push_item<T: Copy>(
         pages.push(page)?;
         return Ok(());
     }
-    pages[len / PAGE_LEN].push(alloc, item, steps)?;
+    pages[len / PAGE_LEN].push(alloc, base, item, steps)?;
     Ok(())
 }
 
-// Makes all pages shared, and gives each a second name.
-fn share_all<T: Copy>(pages: &mut Vec<Page<T>>, steps: &mut Steps) -> Result<Vec<Page<T>>, Memory>
-    ensures same { IfOk result (λ named. pieces_of named.items ≡ pieces_of pages.old.items) }
-    ensures kept { pieces_of pages.new.items ≡ pieces_of pages.old.items }
+// Gives each page over a base a second name.
+fn share_all<T: Copy>(
+    base: &[T],
+    pages: &mut Vec<Page<T>>,
+    steps: &mut Steps,
+) -> Result<Vec<Page<T>>, Memory>
+    ensures same { IfOk result (λ named. pieces_of base.now named.items ≡ pieces_of base.now pages.old.items) }
+    ensures kept { pieces_of base.now pages.new.items ≡ pieces_of base.now pages.old.items }
     ensures tics { steps.new.tics ≡ steps.old.tics }
     ensures least { steps.old.pages ≤ steps.new.pages }
     ensures most { steps.new.pages ≤ steps.old.pages + 2 * length pages.old.items }
@@ -207,14 +238,14 @@ mod tests {
         let mut origin = counting(rt.alloc(), 100)?;
         let mut steps = Steps::new();
         let mut forked = origin.fork(&mut steps)?;
-        assert_eq!(rt; steps.pages(), 8);
+        assert_eq!(rt; steps.pages(), 4);
         assert_eq!(rt; forked.len(), 100);
         assert_eq!(rt; forked.get(99), 99);
 
         forked.set(40, 7, &mut steps)?;
-        assert_eq!(rt; steps.pages(), 8 + 33);
+        assert_eq!(rt; steps.pages(), 4 + 33);
         forked.set(41, 8, &mut steps)?;
-        assert_eq!(rt; steps.pages(), 8 + 34);
+        assert_eq!(rt; steps.pages(), 4 + 34);
         assert_eq!(rt; origin.get(40), 40);
         assert_eq!(rt; origin.get(41), 41);
 

@@ -5,8 +5,8 @@ use Rattle.page_store.proofs.store.share_all.Given as goal
 
 abbrev pub invariant-loop-k : goal.invariant-loop-k
 invariant-loop-k g l = record {
-  kept : pieces_of l.pages.items ≡ pieces_of l.fn.pages.items;
-  named : pieces_of l.named.items ≡ take l.k (pieces_of l.fn.pages.items);
+  kept : pieces_of l.base l.pages.items ≡ pieces_of l.base l.fn.pages.items;
+  named : pieces_of l.base l.named.items ≡ take l.k (pieces_of l.base l.fn.pages.items);
   tics : l.steps.tics ≡ l.fn.steps.tics;
   least : l.fn.steps.pages ≤ l.steps.pages;
   most : l.steps.pages ≤ l.fn.steps.pages + 2 * l.k;
