@@ -1,6 +1,8 @@
 -- The lists of the block map.
-use Rattle.std.specs.Prelude.{◌≡◌, ℕ, ◌+◌, ◌*◌, ◌<◌, ◌≤◌, ◌==◌, pos, ◌<ℤ◌, List, length, drop, All, slice_index}
+use Rattle.std.specs.Prelude.{◌≡◌, ℕ, ◌+◌, ◌*◌, ◌<◌, ◌≤◌, ◌==◌, ℤ, pos, ◌-ℤ◌, ◌<ℤ◌, Bool, ◌&&◌, int_le, int_lt, unsigned_abs, List, length, drop, All, slice_index, Option, Some, None, if◌then◌else◌}
+use Rattle.std.specs.Int.{int_div_euclid}
 use Rattle.std.specs.List.{before_first}
+use Rattle.fixed_angle.specs.Fixed.{wrap32}
 use Rattle.map_geometry.specs.Derived.{signed_word}
 
 -- the word that ends a list
@@ -17,6 +19,27 @@ pub record ReachesEnd (words : List ℕ) (offset : ℕ) : Type 0 where
   pub after : offset ≤ place
   pub within : place < length words
   pub mark : slice_index words place ≡ end_mark
+
+-- how many whole blocks a length has, rounded down: a block is 128 units of 65536 wide and high
+abbrev pub blocks_below : ℤ → ℤ
+blocks_below length = int_div_euclid length (pos 8388608)
+
+-- The number of the column or row of blocks in which a coordinate lies, counted from where the block map begins. The
+-- way from there wraps in 32 bits; columns to the west of it and rows to the south have negative numbers.
+abbrev pub block_number : ℤ → ℤ → ℤ
+block_number origin at = blocks_below (wrap32 (at -ℤ origin))
+
+-- a grid of so many columns and rows has this column and this row
+abbrev pub is_in_grid : ℕ → ℕ → ℤ → ℤ → Bool
+is_in_grid width height column row = (int_le (pos 0) column && int_lt column (pos width)) && (int_le (pos 0) row && int_lt row (pos height))
+
+-- the number of a block, row by row from the south
+abbrev pub cell_number : ℕ → ℤ → ℤ → ℕ
+cell_number width column row = unsigned_abs row * width + unsigned_abs column
+
+-- the number of a block, where the grid has it
+abbrev pub cell_of : ℕ → ℕ → ℤ → ℤ → Option ℕ
+cell_of width height column row = if is_in_grid width height column row then Some (cell_number width column row) else None
 
 -- The block map has its head of four words, at least one column and one row (both are signed words), the place
 -- of each block's list, and the end of each list.

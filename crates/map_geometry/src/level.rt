@@ -143,10 +143,11 @@ impl Level {
         self.parts.subsectors[i]
     }
 
-    /// No way down from the last node passes more nodes than this.
+    /// No way down from the last node passes more nodes than this. There is a subsector, also without nodes.
     pub fn node_count(&self) -> usize
         ensures count { result ≡ length self.now.nodes }
         ensures ends { WalksEnd self.now.nodes }
+        ensures subsectors { 0 < length self.now.subsectors }
     {
         self.parts.nodes.len()
     }
@@ -224,11 +225,12 @@ impl Level {
         self.parts.width
     }
 
-    /// The number of the grid's rows: at least one, and below 2^15.
+    /// The number of the grid's rows: at least one, and below 2^15. The grid's blocks are the cells.
     pub fn height(&self) -> u32
         ensures value { result ≡ self.now.height }
         ensures some { 0 < result }
         ensures below { result < 2 ^ 15 }
+        ensures cells { length self.now.cells ≡ self.now.width * result }
     {
         self.parts.height
     }

@@ -1,11 +1,13 @@
 //! A level's lists, and which side of a line a place is on.
 #![tactic(auto)]
 
+mod blocks;
 mod fault;
 mod level;
 mod records;
 mod sides;
 
+pub use blocks::blocks_below;
 pub use fault::LevelFault;
 pub use level::{Level, LevelParts};
 pub use records::{Area, DivLine, Ground, Line, Node, Seg, Side, Slope, Spot, Subsector, Vertex};
