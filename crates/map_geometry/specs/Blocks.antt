@@ -1,6 +1,8 @@
 -- The lists of the block map.
-use Rattle.std.specs.Prelude.{◌≡◌, ℕ, ◌+◌, ◌*◌, ◌<◌, ◌≤◌, ◌==◌, pos, ◌<ℤ◌, List, length, drop, All, slice_index}
+use Rattle.std.specs.Prelude.{◌≡◌, ℕ, ◌+◌, ◌*◌, ◌<◌, ◌≤◌, ◌==◌, ℤ, pos, ◌-ℤ◌, ◌<ℤ◌, List, length, drop, All, slice_index}
+use Rattle.std.specs.Int.{int_div_euclid}
 use Rattle.std.specs.List.{before_first}
+use Rattle.fixed_angle.specs.Fixed.{wrap32}
 use Rattle.map_geometry.specs.Derived.{signed_word}
 
 -- the word that ends a list
@@ -17,6 +19,12 @@ pub record ReachesEnd (words : List ℕ) (offset : ℕ) : Type 0 where
   pub after : offset ≤ place
   pub within : place < length words
   pub mark : slice_index words place ≡ end_mark
+
+-- The number of the column or row of blocks in which a coordinate lies, counted from where the block map begins: a
+-- block is 128 units of 65536 wide and high. The way from the beginning wraps in 32 bits; columns to the west of it
+-- and rows to the south have negative numbers.
+abbrev pub block_number : ℤ → ℤ → ℤ
+block_number origin at = int_div_euclid (wrap32 (at -ℤ origin)) (pos 8388608)
 
 -- The block map has its head of four words, at least one column and one row (both are signed words), the place
 -- of each block's list, and the end of each list.

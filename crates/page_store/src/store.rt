@@ -28,14 +28,21 @@ impl<T> Model for Store<T> {
 }
 
 impl<T: Copy + Send + Sync> Store<T> {
+    /// A store of no items. It takes no memory.
+    pub fn new(alloc: Global) -> Store<T>
+        ensures { result ≡ [] }
+    {
+        Store {
+            pages: Vec::new(alloc),
+            len: 0,
+        }
+    }
+
     /// A store of these items.
     pub fn from_list(alloc: Global, items: Vec<T>) -> Result<Store<T>, Memory>
         ensures { IfOk result (λ store. store ≡ items.items) }
     {
-        let mut store = Store {
-            pages: Vec::new(alloc),
-            len: 0,
-        };
+        let mut store = Store::new(alloc);
         for item in &items {
             store.push(*item, &mut Steps::new())?;
         }
