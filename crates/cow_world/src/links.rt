@@ -37,11 +37,7 @@ impl World {
         let block = cell_of(&level_grid(level), x, y);
         let alloc = *self.acted.allocator();
         self.order.make_room(alloc)?;
-        let moved = Thing {
-            x,
-            y,
-            ..self.things.get(thing as usize)
-        };
+        let moved = moved_to(self.things.get(thing as usize), x, y);
         self.things.set(thing as usize, moved, steps)?;
         self.order.link(thing, block);
         Ok(())
@@ -69,6 +65,13 @@ impl World {
         keep_present(&self.things, out);
         Ok(())
     }
+}
+
+// The thing at another place.
+fn moved_to(thing: Thing, x: i32, y: i32) -> Thing
+    ensures { result ≡ record thing { x = x; y = y } }
+{
+    Thing { x, y, ..thing }
 }
 
 // Keeps those things that are present.
