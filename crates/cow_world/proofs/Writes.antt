@@ -5,7 +5,6 @@ use Rattle.game_trait.specs.declared.shown.Halt.{Halt}
 use Rattle.cow_world.specs.declared.grid.Grid.{Grid}
 use Rattle.cow_world.specs.Flat.{Live, Gridded, IsLive, parts, with_parts, no_thing}
 use Rattle.cow_world.specs.Places.{is_present, is_in_block, linked_in}
-use Rattle.cow_world.specs.Fits.{KeepsFit}
 use Rattle.cow_world.specs.Kept.{flat_with}
 
 -- a world that is seen to be live was not halted
@@ -22,10 +21,6 @@ parts_are (Some end) lists grid world seen live = absurd (subst IsLive (sym seen
 pub written : (new : Live → Live) (end : Option (ℕ × Halt)) (lists : Live) (grid : Grid) (world : Gridded) → record { flat = flat_with end lists; grid = grid } ≡ world → IsLive world → record { flat = flat_with end (new lists); grid = grid } ≡ with_parts world (new (parts world))
 written new None lists grid world seen live = ap (λ w. with_parts w (new (parts w))) seen
 written new (Some end) lists grid world seen live = absurd (subst IsLive (sym seen) live)
-
--- what the write keeps fit, the fields show
-pub kept_fit : (new : Live → Live) (end : Option (ℕ × Halt)) (lists : Live) (grid : Grid) (world : Gridded) → record { flat = flat_with end lists; grid = grid } ≡ world → IsLive world → KeepsFit world (with_parts world (new (parts world))) → KeepsFit world (record { flat = flat_with end (new lists); grid = grid })
-kept_fit new end lists grid world seen live kept = subst (KeepsFit world) (sym (written new end lists grid world seen live)) kept
 
 -- what is linked in a block, by the fields of a live world
 pub linked_by_fields : (end : Option (ℕ × Halt)) (lists : Live) (grid : Grid) (world : Gridded) → record { flat = flat_with end lists; grid = grid } ≡ world → IsLive world → (column row : ℤ) → filter (λ i. is_present lists.things i && is_in_block grid column row (get_or lists.things i no_thing)) lists.links ≡ linked_in world column row

@@ -93,6 +93,10 @@ line_special_at world i = slice_index (parts world).specials i
 abbrev pub thing_at : Gridded → ℕ → Thing
 thing_at world i = slice_index_or (parts world).things i no_thing
 
+-- the player's thing, which has its x, y, z, floorz and ceilingz
+abbrev pub player_thing : Gridded → Thing
+player_thing world = thing_at world (parts world).player.thing
+
 abbrev pub thinker_at : Gridded → ℕ → Thinker
 thinker_at world i = slice_index_or (parts world).thinkers i Ended
 

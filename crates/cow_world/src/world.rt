@@ -1,6 +1,8 @@
 //! The world as a whole.
 ghost use Rattle.std.specs.Prelude.{◌≡◌, ◌+◌, ◌*◌, ◌<◌, ◌≤◌, ◌↔◌, length, map, IfOk, IsNone};
+ghost use Rattle.fixed_angle.specs.Tables.{Tables};
 ghost use Rattle.map_geometry.specs.Lists.{nth_sector};
+ghost use Rattle.cow_world.specs.Fits.{FitsLevel, FitsTables};
 ghost use Rattle.cow_world.specs.Flat.{opening, sector_from, special_from, page_sum, halt_of, set_halted, IsLive};
 
 use crate::grid::{Grid, level_grid};
@@ -69,7 +71,9 @@ impl World {
     /// The live world of a level before anything was spawned: its sectors, which name no mover, and its line specials.
     /// All other lists are empty, all numbers 0, and the player stands for no thing until one was pushed.
     pub fn opening(alloc: Global, level: &Level) -> Result<World, Memory>
-        ensures { IfOk result (λ world. world ≡ opening level.now) }
+        ensures opening { IfOk result (λ world. world ≡ opening level.now) }
+        ensures fits_level { IfOk result (FitsLevel level.now) }
+        ensures fits_tables { IfOk result (λ world. (tables : Tables) → FitsTables tables world) }
     {
         let grid = level_grid(level);
         Ok(World {
@@ -135,6 +139,7 @@ impl World {
         self.things = Store::new(alloc);
         self.thinkers = Store::new(alloc);
         self.acted.clear();
+        self.player = NO_PLAYER;
         self.halted = Some((tic, halt));
     }
 }

@@ -1,6 +1,7 @@
-use Rattle.std.proofs.Common.{◌∙◌, arith, rules}
+use Rattle.std.proofs.Common.{sym, subst, ◌∙◌, arith, rules}
 use Rattle.std.proofs.lemmas.Grind.{common_steps}
-use Rattle.cow_world.proofs.Opened.{no_movers}
+use Rattle.cow_world.specs.Fits.{FitsLevel}
+use Rattle.cow_world.proofs.Opened.{no_movers, fits-opening}
 use Rattle.cow_world.proofs.world.World.opening.Goals as goal
 
 pub invariant_of-result : goal.invariant_of-result
@@ -19,3 +20,9 @@ invariant_of-result c = record {
   no_things = λ end ended. absurd cc;
   no_thinkers = λ end ended. absurd cc;
 }
+
+pub returns-clause-opening : goal.returns-clause-opening
+returns-clause-opening c = search rules
+
+pub returns-clause-fits_level : goal.returns-clause-fits_level
+returns-clause-fits_level c = subst (FitsLevel c.args.level.now) (sym (returns-clause-opening c)) (fits-opening c.args.level.now)

@@ -1,8 +1,7 @@
-use Rattle.std.proofs.Common.{◌≡◌, [], ◌∷◌, ◌++◌, None, Some, ap, sym, ◌∙◌, arith, length-append}
-use Rattle.cow_world.specs.Flat.{Live}
+use Rattle.std.proofs.Common.{◌≡◌, [], ◌∷◌, ◌++◌, None, Some, sym, subst, rules, arith, length-append}
 use Rattle.cow_world.specs.Fits.{KeepsTablesWith}
 use Rattle.cow_world.proofs.Fitting.{keeps-push_thing}
-use Rattle.cow_world.proofs.Writes.{is_live, written}
+use Rattle.cow_world.proofs.Writes.{is_live}
 use Rattle.cow_world.proofs.Entries.{entries-push}
 use Rattle.cow_world.proofs.world.World.push_thing.Goals as goal
 
@@ -26,8 +25,8 @@ invariant_of-self-2 c =
       no_thinkers = c.self.invariant.no_thinkers;
     })
 
+pub returns-clause-ok : goal.returns-clause-ok
+returns-clause-ok c = search rules
+
 pub returns-clause-fits_tables : goal.returns-clause-fits_tables
-returns-clause-fits_tables c =
-    let new : Live → Live = λ l. record l { things = l.things ++ c.args.thing ∷ [] } in
-    let same = written new _ _ _ _ c.self.view_is c.requires in
-    rw c.in_ok-push.ensures.ok (rw same (keeps-push_thing c.args.self.now c.args.thing))
+returns-clause-fits_tables c = subst (KeepsTablesWith c.args.thing c.args.self.now) (sym (returns-clause-ok c)) (keeps-push_thing c.args.self.now c.args.thing)
