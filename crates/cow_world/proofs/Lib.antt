@@ -1,0 +1,5 @@
+pub mod Fitting
+pub mod Writes
+pub mod Entries
+pub mod Opened
+pub mod Cells

@@ -1,0 +1,11 @@
+pub mod Thinkers
+pub mod Flat
+pub mod Places
+pub mod Outcome
+pub mod Fits
+pub mod Kept
+pub use Rattle.doom_edge.specs.Counts
+pub use Rattle.page_store.specs.Pages
+pub use Rattle.fixed_angle.specs.Tables
+pub use Rattle.map_geometry.specs.Lists
+pub use Rattle.map_geometry.specs.Blocks

@@ -1,0 +1,42 @@
+-- The things of a block.
+use Rattle.std.specs.Prelude.{◌≡◌, ℕ, ◌+◌, ◌*◌, ℤ, pos, Bool, ◌&&◌, List, filter, Option, Some, None, int_le, int_lt, unsigned_abs, slice_index_or, if◌then◌else◌}
+use Rattle.std.specs.List.{flat_map}
+use Rattle.std.specs.Ordering.{int_eq}
+use Rattle.map_geometry.specs.Blocks.{block_number}
+use Rattle.cow_world.specs.declared.records.Thing.{Thing}
+use Rattle.cow_world.specs.declared.grid.Grid.{Grid}
+use Rattle.cow_world.specs.Flat.{Gridded, parts, thing_at, no_thing}
+
+-- the grid has this column and this row
+abbrev pub is_in_grid : Grid → ℤ → ℤ → Bool
+is_in_grid grid column row = (int_le (pos 0) column && int_lt column (pos grid.width)) && (int_le (pos 0) row && int_lt row (pos grid.height))
+
+-- the place lies in this block of the grid
+abbrev pub is_in_block : Grid → ℤ → ℤ → Thing → Bool
+is_in_block grid column row thing = is_in_grid grid column row && (int_eq (block_number grid.origin_x thing.x) column && int_eq (block_number grid.origin_y thing.y) row)
+
+-- a thing is there, and was not taken
+abbrev pub is_present : List Thing → ℕ → Bool
+is_present things i = (slice_index_or things i no_thing).present
+
+-- The present linked things of a block, in link order. A block outside the grid has none, and a thing whose place lies
+-- outside the grid is in no block.
+abbrev pub linked_in : Gridded → ℤ → ℤ → List ℕ
+linked_in world column row = filter (λ i. is_present (parts world).things i && is_in_block world.grid column row (thing_at world i)) (parts world).links
+
+-- block by block, each a column and a row, the present linked things of that block in link order
+abbrev pub things_in : Gridded → List (ℤ × ℤ) → List ℕ
+things_in world blocks = flat_map (λ block. linked_in world block.0 block.1) blocks
+
+-- ---- the blocks by number, row by row from the south
+
+abbrev pub cell_number : Grid → ℤ → ℤ → ℕ
+cell_number grid column row = unsigned_abs row * grid.width + unsigned_abs column
+
+-- the number of a block, where the grid has it
+abbrev pub cell_at : Grid → ℤ → ℤ → Option ℕ
+cell_at grid column row = if is_in_grid grid column row then Some (cell_number grid column row) else None
+
+-- the number of the block in which a place lies
+abbrev pub cell_of : Grid → ℤ → ℤ → Option ℕ
+cell_of grid x y = cell_at grid (block_number grid.origin_x x) (block_number grid.origin_y y)

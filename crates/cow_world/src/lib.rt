@@ -1,0 +1,24 @@
+//! The flat world: what a tic may read and write.
+//!
+//! A [`World`] is seen as plain lists and numbers, or as halted. Each writer changes what it names and nothing else,
+//! and on want of memory nothing. What the rules of play do to a world is said in terms of the definitions in
+//! `specs/Flat.antt`, which have the names of the calls; `specs/Outcome.antt` says what a part of a tic comes to, and
+//! `specs/Fits.antt` what a world has to be for the rules.
+#![tactic(auto)]
+
+mod fault;
+mod grid;
+mod kinds;
+mod links;
+mod numbers;
+mod records;
+mod sectors;
+mod thinkers;
+mod things;
+mod world;
+
+pub use fault::PlayFault;
+pub use grid::Grid;
+pub use kinds::{DoorKind, FloorKind, GlowKind, LightKind, PlatKind, Plane};
+pub use records::{DoorPhase, LiftPhase, Player, Sector, Thing, Thinker};
+pub use world::World;

@@ -1,0 +1,66 @@
+//! Thinkers.
+ghost use Rattle.std.specs.Prelude.{◌≡◌, ◌+◌, ◌<◌, ◌≤◌, length, IfSome, IsTrue, OnOk, OnErr};
+ghost use Rattle.cow_world.specs.Thinkers.{sector_of, is_lift, lift_count};
+ghost use Rattle.cow_world.specs.Flat.{IsLive, parts, thinker_at, push_thinker, set_thinker};
+ghost use Rattle.cow_world.specs.Fits.{KeepsFit, Serves};
+
+use crate::records::Thinker;
+use crate::world::World;
+use doom_edge::{Memory, Steps};
+
+impl World {
+    /// How many thinkers there are, those that have ended included.
+    pub fn thinker_count(&self) -> u32
+        requires { IsLive self.now }
+        ensures { result ≡ length (parts self.now).thinkers }
+    {
+        self.thinkers.len() as u32
+    }
+
+    /// The thinker at a place. Its sector is there.
+    pub fn thinker(&self, i: u32) -> Thinker
+        requires live { IsLive self.now }
+        requires there { i < length (parts self.now).thinkers }
+        ensures entry { result ≡ thinker_at self.now i }
+        ensures sector { IfSome (sector_of result) (λ sector. sector < length (parts self.now).sectors) }
+    {
+        self.thinkers.get(i as usize)
+    }
+
+    /// Adds a thinker behind the others. The sector that it moves doesn't name it yet.
+    pub fn push_thinker(&mut self, thinker: Thinker, steps: &mut Steps) -> Result<(), Memory>
+        requires live { IsLive self.old }
+        requires sector { IfSome (sector_of thinker) (λ sector. sector < length (parts self.old).sectors) }
+        ensures ok { OnOk result (self.new ≡ push_thinker self.old thinker) }
+        ensures err { OnErr result (self.new ≡ self.old) }
+
+        ensures fits { OnOk result ((IsTrue (is_lift thinker) → lift_count (parts self.old).thinkers < 30) → KeepsFit self.old self.new) }
+
+        ensures tics { steps.new.tics ≡ steps.old.tics }
+        ensures least { steps.old.pages ≤ steps.new.pages }
+        ensures most { steps.new.pages ≤ steps.old.pages + 34 }
+    {
+        if self.thinkers.len() >= u32::MAX as usize {
+            return Err(Memory);
+        }
+        self.thinkers.push(thinker, steps)?;
+        Ok(())
+    }
+
+    pub fn set_thinker(&mut self, i: u32, to: Thinker, steps: &mut Steps) -> Result<(), Memory>
+        requires live { IsLive self.old }
+        requires there { i < length (parts self.old).thinkers }
+        requires sector { IfSome (sector_of to) (λ sector. sector < length (parts self.old).sectors) }
+        ensures ok { OnOk result (self.new ≡ set_thinker self.old i to) }
+        ensures err { OnErr result (self.new ≡ self.old) }
+
+        ensures fits { OnOk result (Serves self.old i to → KeepsFit self.old self.new) }
+
+        ensures tics { steps.new.tics ≡ steps.old.tics }
+        ensures least { steps.old.pages ≤ steps.new.pages }
+        ensures most { steps.new.pages ≤ steps.old.pages + 34 }
+    {
+        self.thinkers.set(i as usize, to, steps)?;
+        Ok(())
+    }
+}
