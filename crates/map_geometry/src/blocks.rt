@@ -1,5 +1,5 @@
 //! The grid of blocks, the squares of 128 map units by which a level's lines and things are found.
-ghost use Rattle.std.specs.Prelude.{◌≡◌, ◌<◌, ◌^◌, ◌-ℤ◌, length, IfSome};
+ghost use Rattle.std.specs.Prelude.{◌≡◌, ◌*◌, ◌<◌, ◌^◌, ◌-ℤ◌, length, IfSome};
 ghost use Rattle.fixed_angle.specs.Fixed.{wrap32};
 ghost use Rattle.map_geometry.specs.Blocks.{blocks_below, block_number, cell_of};
 
@@ -64,6 +64,7 @@ impl Level {
     pub fn cell_at(&self, column: i32, row: i32) -> Option<u32>
         ensures cell { result ≡ cell_of self.now.width self.now.height column row }
         ensures there { IfSome result (λ cell. cell < length self.now.cells) }
+        ensures within { IfSome result (λ cell. cell < self.now.width * self.now.height) }
     {
         cell_of(self.width(), self.height(), column, row)
     }
