@@ -9,13 +9,13 @@ use Rattle.std.proofs.lemmas.Bool.Decides.{same_from_decides, Decides-eqb, Decid
 use Rattle.std.proofs.lemmas.Option.{cond_some}
 use Rattle.std.proofs.lemmas.List.Elements.{All-head, All-tail, All-map, All-filter}
 use Rattle.std.proofs.lemmas.Nat.{same_from_place}
-use Rattle.map_geometry.specs.Blocks.{block_number}
+use Rattle.map_geometry.specs.Blocks.{block_number, is_in_grid, cell_number}
 use Rattle.link_order.specs.declared.linked.Linked.{Linked}
 use Rattle.link_order.specs.Links.{stands_in, things_in}
 use Rattle.cow_world.specs.declared.records.Thing.{Thing}
 use Rattle.cow_world.specs.declared.grid.Grid.{Grid}
 use Rattle.cow_world.specs.Flat.{no_thing}
-use Rattle.cow_world.specs.Places.{is_in_grid, is_in_block, is_present, cell_number, cell_at, cell_of}
+use Rattle.cow_world.specs.Places.{is_in_block, is_present, cell_at}
 use Rattle.cow_world.specs.Kept.{IsEntry, things_of}
 
 both : (a b : Bool) → (a && b) ≡ true → (a ≡ true) × (b ≡ true)
@@ -36,7 +36,7 @@ record IsInGrid (grid : Grid) (column row : ℤ) : Type 0 where
   row_is : row ≡ pos (unsigned_abs row)
   narrow : unsigned_abs column < grid.width
 
-inside : (grid : Grid) (column row : ℤ) → is_in_grid grid column row ≡ true → IsInGrid grid column row
+inside : (grid : Grid) (column row : ℤ) → is_in_grid grid.width grid.height column row ≡ true → IsInGrid grid column row
 inside grid column row test =
     let halves = both (int_le (pos 0) column && int_lt column (pos grid.width)) (int_le (pos 0) row && int_lt row (pos grid.height)) test in
     let across = both (int_le (pos 0) column) (int_lt column (pos grid.width)) halves.0 in
@@ -48,21 +48,21 @@ inside grid column row test =
     }
 
 -- two blocks of one number are one block
-same_block : (grid : Grid) (column row c r : ℤ) → IsInGrid grid column row → IsInGrid grid c r → cell_number grid c r ≡ cell_number grid column row → (c ≡ column) × (r ≡ row)
+same_block : (grid : Grid) (column row c r : ℤ) → IsInGrid grid column row → IsInGrid grid c r → cell_number grid.width c r ≡ cell_number grid.width column row → (c ≡ column) × (r ≡ row)
 same_block grid column row c r here there same =
     let places = same_from_place (unsigned_abs r) (unsigned_abs c) (unsigned_abs row) (unsigned_abs column) grid.width there.narrow here.narrow same in
     (there.column_is ∙ (ap (λ n. pos n) places.1 ∙ sym here.column_is), there.row_is ∙ (ap (λ n. pos n) places.0 ∙ sym here.row_is))
 
 -- the block of a column and row has a number just where it is the block with that number
-numbered : (grid : Grid) (column row c r : ℤ) (block : ℕ) → is_in_grid grid column row ≡ true → cell_number grid column row ≡ block → Decides (option_map_or (λ b. b == block) (cell_at grid c r) false) ((c ≡ column) × (r ≡ row))
+numbered : (grid : Grid) (column row c r : ℤ) (block : ℕ) → is_in_grid grid.width grid.height column row ≡ true → cell_number grid.width column row ≡ block → Decides (option_map_or (λ b. b == block) (cell_at grid c r) false) ((c ≡ column) × (r ≡ row))
 numbered grid column row c r block has is = (λ test. onto test, λ same. back same)
   where
     onto : option_map_or (λ b. b == block) (cell_at grid c r) false ≡ true → (c ≡ column) × (r ≡ row)
     onto test =
-        elim (cases_Bool (is_in_grid grid c r)) [
+        elim (cases_Bool (is_in_grid grid.width grid.height c r)) [
           | inl within ↦
-            let hit : (cell_number grid c r == block) ≡ true = rw within at test in
-            let equal : cell_number grid c r ≡ block = (Decides-eqb (cell_number grid c r) block).0 hit in
+            let hit : (cell_number grid.width c r == block) ≡ true = rw within at test in
+            let equal : cell_number grid.width c r ≡ block = (Decides-eqb (cell_number grid.width c r) block).0 hit in
             same_block grid column row c r (inside grid column row has) (inside grid c r within) (equal ∙ sym is)
           | inr out ↦
             let miss : false ≡ true = rw out at test in
@@ -70,11 +70,11 @@ numbered grid column row c r block has is = (λ test. onto test, λ same. back s
         ]
     back : (c ≡ column) × (r ≡ row) → option_map_or (λ b. b == block) (cell_at grid c r) false ≡ true
     back same =
-        let test : (cell_number grid column row == block) ≡ true = eq-eqb (cell_number grid column row) block is in
+        let test : (cell_number grid.width column row == block) ≡ true = eq-eqb (cell_number grid.width column row) block is in
         rw (same.0, same.1, has) test
 
 -- an entry stands in the block with a number just where its thing lies in that block
-stands_is : (things : List Thing) (grid : Grid) (column row : ℤ) (block : ℕ) (entry : Linked) → is_in_grid grid column row ≡ true → cell_number grid column row ≡ block → IsEntry things grid entry → stands_in block entry ≡ is_in_block grid column row (get_or things entry.thing no_thing)
+stands_is : (things : List Thing) (grid : Grid) (column row : ℤ) (block : ℕ) (entry : Linked) → is_in_grid grid.width grid.height column row ≡ true → cell_number grid.width column row ≡ block → IsEntry things grid entry → stands_in block entry ≡ is_in_block grid column row (get_or things entry.thing no_thing)
 stands_is things grid column row block entry has is kept =
     let thing : Thing = get_or things entry.thing no_thing in
     let c : ℤ = block_number grid.origin_x thing.x in
@@ -88,7 +88,7 @@ stands_is things grid column row block entry has is kept =
 pub present_in : (things : List Thing) (grid : Grid) (column row : ℤ) (block : ℕ) (order : List Linked) → cell_at grid column row ≡ Some block → All (IsEntry things grid) order → filter (is_present things) (things_in block order) ≡ filter (λ i. is_present things i && is_in_block grid column row (get_or things i no_thing)) (things_of order)
 present_in things grid column row block [] cell kept = refl
 present_in things grid column row block (entry ∷ rest) cell kept =
-    let parts = cond_some (is_in_grid grid column row) (cell_number grid column row) block cell in
+    let parts = cond_some (is_in_grid grid.width grid.height column row) (cell_number grid.width column row) block cell in
     let stands = stands_is things grid column row block entry parts.0 parts.1 (All-head (IsEntry things grid) entry rest kept) in
     let others = present_in things grid column row block rest cell (All-tail (IsEntry things grid) entry rest kept) in
     elim (cases_Bool (is_in_block grid column row (get_or things entry.thing no_thing))) [
@@ -105,14 +105,14 @@ present_in things grid column row block (entry ∷ rest) cell kept =
 -- a block outside the grid has none
 pub none_outside : (things : List Thing) (grid : Grid) (column row : ℤ) (order : List ℕ) → cell_at grid column row ≡ None → filter (λ i. is_present things i && is_in_block grid column row (get_or things i no_thing)) order ≡ []
 none_outside things grid column row order cell =
-    elim (cases_Bool (is_in_grid grid column row)) [
+    elim (cases_Bool (is_in_grid grid.width grid.height column row)) [
       | inl within ↦
-        let wrong : Some (cell_number grid column row) ≡ None = rw within at cell in
+        let wrong : Some (cell_number grid.width column row) ≡ None = rw within at cell in
         absurd cc
       | inr out ↦ none order out
     ]
   where
-    none : (order : List ℕ) → is_in_grid grid column row ≡ false → filter (λ i. is_present things i && is_in_block grid column row (get_or things i no_thing)) order ≡ []
+    none : (order : List ℕ) → is_in_grid grid.width grid.height column row ≡ false → filter (λ i. is_present things i && is_in_block grid column row (get_or things i no_thing)) order ≡ []
     none [] out = refl
     none (i ∷ rest) out =
         elim (cases_Bool (is_present things i)) [

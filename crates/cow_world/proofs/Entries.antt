@@ -11,7 +11,7 @@ use Rattle.cow_world.specs.declared.records.Thing.{Thing}
 use Rattle.cow_world.specs.declared.grid.Grid.{Grid}
 use Rattle.cow_world.specs.declared.world.World.TheInside.{Inside}
 use Rattle.cow_world.specs.Flat.{Live, Gridded, IsLive, no_thing, first_in, link}
-use Rattle.cow_world.specs.Places.{cell_of}
+use Rattle.cow_world.specs.Places.{cell_under}
 use Rattle.cow_world.specs.Kept.{IsEntry, IsKept, things_of, lists_in, world_in}
 use Rattle.cow_world.proofs.Writes.{written}
 
@@ -19,7 +19,7 @@ use Rattle.cow_world.proofs.Writes.{written}
 entry_kept : (things now : List Thing) (grid : Grid) (entry : Linked) → length things ≤ length now → get_or now entry.thing no_thing ≡ get_or things entry.thing no_thing → IsEntry things grid entry → IsEntry now grid entry
 entry_kept things now grid entry longer same was = record {
   there = omega (arith, was.there);
-  block = was.block ∙ ap (λ (t : Thing). cell_of grid t.x t.y) (sym same);
+  block = was.block ∙ ap (λ (t : Thing). cell_under grid t.x t.y) (sym same);
 }
 
 -- one more thing
@@ -44,10 +44,10 @@ entries_of_others things i to grid (entry ∷ rest) were =
     ]
 
 -- a thing elsewhere that is linked anew
-pub entries-link : (things : List Thing) (i : ℕ) (x y : ℤ) (to : Thing) (grid : Grid) (order : List Linked) → i < length things → to.x ≡ x → to.y ≡ y → All (IsEntry things grid) order → All (IsEntry (set things i to) grid) (linked_first i (cell_of grid x y) order)
+pub entries-link : (things : List Thing) (i : ℕ) (x y : ℤ) (to : Thing) (grid : Grid) (order : List Linked) → i < length things → to.x ≡ x → to.y ≡ y → All (IsEntry things grid) order → All (IsEntry (set things i to) grid) (linked_first i (cell_under grid x y) order)
 entries-link things i x y to grid order at is_x is_y were =
     let now : List Thing = set things i to in
-    let first : Linked = record { thing = i; block = cell_of grid x y } in
+    let first : Linked = record { thing = i; block = cell_under grid x y } in
     let reads : get_or now i no_thing ≡ to = get_or-set_same things i to no_thing at in
     let kept : IsEntry now grid first = record {
       there = omega (arith, length-set things i to);
@@ -88,7 +88,7 @@ kept-room world order same blocks kept = record {
 }
 
 -- a thing elsewhere that is linked anew
-pub kept-link : (world : Inside) (i : ℕ) (x y : ℤ) (to : Thing) (order : Links) → world.halted ≡ None → i < length world.things → to.x ≡ x → to.y ≡ y → order.order ≡ linked_first i (cell_of world.grid x y) world.order.order → order.blocks ≡ world.order.blocks → IsKept world → IsKept (record world { things = set world.things i to; order = order })
+pub kept-link : (world : Inside) (i : ℕ) (x y : ℤ) (to : Thing) (order : Links) → world.halted ≡ None → i < length world.things → to.x ≡ x → to.y ≡ y → order.order ≡ linked_first i (cell_under world.grid x y) world.order.order → order.blocks ≡ world.order.blocks → IsKept world → IsKept (record world { things = set world.things i to; order = order })
 kept-link world i x y to order live at is_x is_y first blocks kept =
     let same = length-set world.things i to in
     record {
@@ -108,8 +108,8 @@ kept-link world i x y to order live at is_x is_y first blocks kept =
     }
 
 -- the world that they show
-pub shows-link : (world : Inside) (i : ℕ) (x y : ℤ) (to : Thing) (order : Links) (seen : Gridded) → world_in world ≡ seen → IsLive seen → to ≡ record (get_or world.things i no_thing) { x = x; y = y } → order.order ≡ linked_first i (cell_of world.grid x y) world.order.order → world_in (record world { things = set world.things i to; order = order }) ≡ link seen i x y
+pub shows-link : (world : Inside) (i : ℕ) (x y : ℤ) (to : Thing) (order : Links) (seen : Gridded) → world_in world ≡ seen → IsLive seen → to ≡ record (get_or world.things i no_thing) { x = x; y = y } → order.order ≡ linked_first i (cell_under world.grid x y) world.order.order → world_in (record world { things = set world.things i to; order = order }) ≡ link seen i x y
 shows-link world i x y to order seen same live moved first =
-    let links : things_of order.order ≡ first_in i (things_of world.order.order) = ap things_of first ∙ things_of-linked_first i (cell_of world.grid x y) world.order.order in
+    let links : things_of order.order ≡ first_in i (things_of world.order.order) = ap things_of first ∙ things_of-linked_first i (cell_under world.grid x y) world.order.order in
     let new : Live → Live = λ l. record l { things = set l.things i (record (get_or l.things i no_thing) { x = x; y = y }); links = first_in i l.links } in
     rw (moved, links) (written new world.halted (lists_in world) world.grid seen same live)

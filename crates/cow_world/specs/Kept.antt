@@ -9,7 +9,7 @@ use Rattle.cow_world.specs.declared.grid.Grid.{Grid}
 use Rattle.cow_world.specs.declared.world.World.TheInside.{Inside}
 use Rattle.cow_world.specs.Thinkers.{sector_of}
 use Rattle.cow_world.specs.Flat.{Live, Flat, live, halted, Gridded, no_thing}
-use Rattle.cow_world.specs.Places.{cell_of}
+use Rattle.cow_world.specs.Places.{cell_under}
 
 -- the things of entries of the link order
 abbrev pub things_of : List Linked → List ℕ
@@ -41,7 +41,7 @@ world_in world = record { flat = flat_with world.halted (lists_in world); grid =
 -- an entry of the link order: its thing is there, and its block is that in which the thing's place lies
 pub record IsEntry (things : List Thing) (grid : Grid) (entry : Linked) : Type 0 where
   pub there : entry.thing < length things
-  pub block : entry.block ≡ cell_of grid (slice_index_or things entry.thing no_thing).x (slice_index_or things entry.thing no_thing).y
+  pub block : entry.block ≡ cell_under grid (slice_index_or things entry.thing no_thing).x (slice_index_or things entry.thing no_thing).y
 
 -- Each place that the world keeps is in range (the player stands for thing 0 where there is none yet), and its counts
 -- fit their type. A halted world has no pages, and nothing

@@ -1,19 +1,15 @@
 -- The things of a block.
-use Rattle.std.specs.Prelude.{◌≡◌, ℕ, ◌+◌, ◌*◌, ℤ, pos, Bool, ◌&&◌, List, filter, Option, Some, None, int_le, int_lt, unsigned_abs, slice_index_or, if◌then◌else◌}
+use Rattle.std.specs.Prelude.{ℕ, ℤ, Bool, ◌&&◌, List, filter, Option, slice_index_or}
 use Rattle.std.specs.List.{flat_map}
 use Rattle.std.specs.Ordering.{int_eq}
-use Rattle.map_geometry.specs.Blocks.{block_number}
+use Rattle.map_geometry.specs.Blocks.{block_number, is_in_grid, cell_of}
 use Rattle.cow_world.specs.declared.records.Thing.{Thing}
 use Rattle.cow_world.specs.declared.grid.Grid.{Grid}
 use Rattle.cow_world.specs.Flat.{Gridded, parts, thing_at, no_thing}
 
--- the grid has this column and this row
-abbrev pub is_in_grid : Grid → ℤ → ℤ → Bool
-is_in_grid grid column row = (int_le (pos 0) column && int_lt column (pos grid.width)) && (int_le (pos 0) row && int_lt row (pos grid.height))
-
 -- the place lies in this block of the grid
 abbrev pub is_in_block : Grid → ℤ → ℤ → Thing → Bool
-is_in_block grid column row thing = is_in_grid grid column row && (int_eq (block_number grid.origin_x thing.x) column && int_eq (block_number grid.origin_y thing.y) row)
+is_in_block grid column row thing = is_in_grid grid.width grid.height column row && (int_eq (block_number grid.origin_x thing.x) column && int_eq (block_number grid.origin_y thing.y) row)
 
 -- a thing is there, and was not taken
 abbrev pub is_present : List Thing → ℕ → Bool
@@ -30,13 +26,10 @@ things_in world blocks = flat_map (λ block. linked_in world block.0 block.1) bl
 
 -- ---- the blocks by number, row by row from the south
 
-abbrev pub cell_number : Grid → ℤ → ℤ → ℕ
-cell_number grid column row = unsigned_abs row * grid.width + unsigned_abs column
-
 -- the number of a block, where the grid has it
 abbrev pub cell_at : Grid → ℤ → ℤ → Option ℕ
-cell_at grid column row = if is_in_grid grid column row then Some (cell_number grid column row) else None
+cell_at grid column row = cell_of grid.width grid.height column row
 
 -- the number of the block in which a place lies
-abbrev pub cell_of : Grid → ℤ → ℤ → Option ℕ
-cell_of grid x y = cell_at grid (block_number grid.origin_x x) (block_number grid.origin_y y)
+abbrev pub cell_under : Grid → ℤ → ℤ → Option ℕ
+cell_under grid x y = cell_at grid (block_number grid.origin_x x) (block_number grid.origin_y y)

@@ -1,9 +1,7 @@
 //! The grid of blocks.
-ghost use Rattle.std.specs.Prelude.{◌≡◌, ◌*◌, ◌<◌, ◌^◌, ◌-ℤ◌, IfSome};
-ghost use Rattle.fixed_angle.specs.Fixed.{wrap32};
-ghost use Rattle.map_geometry.specs.Blocks.{block_number};
+ghost use Rattle.std.specs.Prelude.{◌≡◌, ◌*◌, ◌<◌, ◌^◌, IfSome};
 ghost use Rattle.cow_world.specs.Flat.{grid_of};
-ghost use Rattle.cow_world.specs.Places.{cell_at, cell_of};
+ghost use Rattle.cow_world.specs.Places.{cell_under};
 
 use map_geometry::Level;
 
@@ -31,45 +29,10 @@ pub(crate) fn level_grid(level: &Level) -> Grid
     }
 }
 
-#[inline]
-fn way_from(origin: i32, at: i32) -> i32
-    ensures { result ≡ wrap32 (at -ℤ origin) }
+/// The number of the block in which a place lies, where the level has one.
+pub(crate) fn cell_under(level: &Level, x: i32, y: i32) -> Option<u32>
+    ensures cell { result ≡ cell_under (grid_of level.now) x y }
+    ensures within { IfSome result (λ cell. cell < level.now.width * level.now.height) }
 {
-    at.wrapping_sub(origin)
-}
-
-/// The column or row in which a coordinate lies.
-fn block_at(origin: i32, at: i32) -> i32
-    ensures { result ≡ block_number origin at }
-{
-    way_from(origin, at) >> 23
-}
-
-/// The number of a block, row by row from the south, where the grid has it.
-pub(crate) fn cell_at(grid: &Grid, column: i32, row: i32) -> Option<u32>
-    requires narrow { grid.now.width < 2 ^ 15 }
-    requires low { grid.now.height < 2 ^ 15 }
-    ensures cell { result ≡ cell_at grid.now column row }
-    ensures within { IfSome result (λ cell. cell < grid.now.width * grid.now.height) }
-{
-    let Grid { width, height, .. } = *grid;
-    if column < 0 || row < 0 {
-        return None;
-    }
-    let column = column.unsigned_abs();
-    let row = row.unsigned_abs();
-    if column >= width || row >= height {
-        return None;
-    }
-    Some(row * width + column)
-}
-
-/// The number of the block in which a place lies, where the grid has one.
-pub(crate) fn cell_of(grid: &Grid, x: i32, y: i32) -> Option<u32>
-    requires narrow { grid.now.width < 2 ^ 15 }
-    requires low { grid.now.height < 2 ^ 15 }
-    ensures cell { result ≡ cell_of grid.now x y }
-    ensures within { IfSome result (λ cell. cell < grid.now.width * grid.now.height) }
-{
-    cell_at(grid, block_at(grid.origin_x, x), block_at(grid.origin_y, y))
+    level.cell_at(level.column_of(x), level.row_of(y))
 }

@@ -4,7 +4,7 @@ ghost use Rattle.cow_world.specs.Flat.{IsLive, parts, grid_of, link, no_thing};
 ghost use Rattle.cow_world.specs.Places.{linked_in, is_present};
 ghost use Rattle.cow_world.specs.Fits.{KeepsFit};
 
-use crate::grid::{cell_at, cell_of, level_grid};
+use crate::grid::cell_under;
 use crate::records::Thing;
 use crate::world::World;
 use doom_edge::{Memory, Steps};
@@ -34,7 +34,7 @@ impl World {
         ensures least { steps.old.pages ≤ steps.new.pages }
         ensures most { steps.new.pages ≤ steps.old.pages + 34 }
     {
-        let block = cell_of(&level_grid(level), x, y);
+        let block = cell_under(level, x, y);
         let alloc = *self.acted.allocator();
         self.order.make_room(alloc)?;
         let moved = moved_to(self.things.get(thing as usize), x, y);
@@ -57,7 +57,7 @@ impl World {
         ensures things { OnOk result (out.new.items ≡ linked_in self.now column row) }
         ensures there { OnOk result (All (λ thing. thing < length (parts self.now).things) out.new.items) }
     {
-        let Some(block) = cell_at(&level_grid(level), column, row) else {
+        let Some(block) = level.cell_at(column, row) else {
             out.clear();
             return Ok(());
         };

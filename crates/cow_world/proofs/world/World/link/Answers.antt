@@ -5,7 +5,7 @@ use Rattle.link_order.specs.Links.{linked_first}
 use Rattle.cow_world.specs.declared.grid.Grid.{Grid}
 use Rattle.cow_world.specs.declared.records.Thing.{Thing}
 use Rattle.cow_world.specs.Flat.{Live, Gridded, no_thing, link}
-use Rattle.cow_world.specs.Places.{cell_of}
+use Rattle.cow_world.specs.Places.{cell_under}
 use Rattle.cow_world.specs.Kept.{world_in}
 use Rattle.cow_world.specs.Fits.{KeepsFit}
 use Rattle.cow_world.proofs.Fitting.{keeps-link}
@@ -26,10 +26,10 @@ set-requires-after_bounds c =
 
 pub link-requires-clause-within : goal.link-requires-clause-within
 link-requires-clause-within c =
-    let own = c.level_grid.ensures.grid ∙ (sym c.requires.grid ∙ sym (ap (λ (w : Gridded). w.grid) c.self.view_is)) in
+    let own = sym c.requires.grid ∙ sym (ap (λ (w : Gridded). w.grid) c.self.view_is) in
     let blocks = ap (λ (g : Grid). g.width * g.height) own ∙ (sym c.self.invariant.blocks ∙ sym c.make_room.ensures.blocks) in
-    let Within : ℕ → Type 0 = λ n. IfSome c.cell_of-block.result (λ b. b < n) in
-    subst Within blocks c.cell_of-block.ensures.within
+    let Within : ℕ → Type 0 = λ n. IfSome c.cell_under-block.result (λ b. b < n) in
+    subst Within blocks c.cell_under-block.ensures.within
 
 -- the thing at its new place
 moved : (c : goal.After-link) → c.moved_to-moved.result ≡ record (get_or c.self.inside.things c.args.thing no_thing) { x = c.args.x; y = c.args.y }
@@ -40,12 +40,13 @@ moved c =
     rw read (rw (x, y) at c.moved_to-moved.ensures)
 
 -- the order, with its entry first
-ordered : (c : goal.After-link) → c.link.new.self.order ≡ linked_first c.args.thing (cell_of c.self.inside.grid c.args.x c.args.y) c.self.inside.order.order
+ordered : (c : goal.After-link) → c.link.new.self.order ≡ linked_first c.args.thing (cell_under c.self.inside.grid c.args.x c.args.y) c.self.inside.order.order
 ordered c =
     let x = to_z-of_z w32 c.args.x c.ranges.x in
     let y = to_z-of_z w32 c.args.y c.ranges.y in
-    let own = c.level_grid.ensures.grid ∙ (sym c.requires.grid ∙ sym (ap (λ (w : Gridded). w.grid) c.self.view_is)) in
-    let block = rw (x, y, own) at c.cell_of-block.ensures.cell in
+    let own = sym c.requires.grid ∙ sym (ap (λ (w : Gridded). w.grid) c.self.view_is) in
+    let Block : Grid → Type 0 = λ grid. c.cell_under-block.result ≡ cell_under grid c.args.x c.args.y in
+    let block = subst Block own (rw (x, y) at c.cell_under-block.ensures.cell) in
     rw (block, c.make_room.ensures.order) at c.link.ensures.order
 
 pub invariant_of-self-2 : goal.invariant_of-self-2

@@ -14,7 +14,7 @@ pub returns-in_default-clause-things : goal.returns-in_default-clause-things
 returns-in_default-clause-things c =
     let column = to_z-of_z w32 c.args.column c.ranges.column in
     let row = to_z-of_z w32 c.args.row c.ranges.row in
-    let same = c.requires.grid ∙ sym c.level_grid.ensures.grid in
+    let same = c.requires.grid in
     let world = c.args.self.now in
     let outside = ap (λ (g : Grid). cell_at g c.args.column c.args.row) same ∙ sym (rw (column, row) at c.in_default.ensures.cell) in
     c.clear.ensures.items ∙ sym (none_outside (parts world).things world.grid c.args.column c.args.row (parts world).links outside)
@@ -23,7 +23,7 @@ returns-in_default-clause-things c =
 block_is : (c : goal.After-keep_present) → cell_at c.self.inside.grid c.args.column c.args.row ≡ Some c.in-Some.block
 block_is c =
     let own : c.self.inside.grid ≡ c.args.self.now.grid = ap (λ (w : Gridded). w.grid) c.self.view_is in
-    let same = own ∙ (c.requires.grid ∙ sym c.level_grid.ensures.grid) in
+    let same = own ∙ c.requires.grid in
     let column = to_z-of_z w32 c.args.column c.ranges.column in
     let row = to_z-of_z w32 c.args.row c.ranges.row in
     ap (λ (g : Grid). cell_at g c.args.column c.args.row) same ∙ sym (rw (column, row) at c.in-Some.ensures.cell)

@@ -1,6 +1,0 @@
-use Rattle.std.proofs.Common.{w32}
-use Rattle.std.proofs.lemmas.Int.{wrapping_sub_is}
-use Rattle.cow_world.proofs.grid.way_from.Goals as goal
-
-pub returns : goal.returns
-returns c = wrapping_sub_is w32 c.args.at c.args.origin c.ranges.at c.ranges.origin
