@@ -2,15 +2,8 @@
 use Rattle.std.specs.Prelude.{◌≡◌, ℕ, ◌+◌, ◌/◌, ◌<◌, ◌≤◌, List, [], ◌∷◌, map, length, take, drop}
 use Rattle.std.specs.List.{flat_map}
 use Rattle.std.specs.Arc.{arc_value}
-use Rattle.page_store.specs.declared.base.Base.{Base}
-use Rattle.page_store.specs.declared.base.Base.TheVariants as base
 use Rattle.page_store.specs.declared.page.Page.{Page}
 use Rattle.page_store.specs.declared.page.Page.TheVariants.{Based, Owned, Shared}
-
--- the items that a store was made of
-abbrev pub base_items : {T : Type 0} → Base T → List T
-base_items base.Empty = []
-base_items (base.Shared items) = (arc_value items).items
 
 -- the items of a page: so many of the base from a place on, or the page's own
 abbrev pub items_of : {T : Type 0} → List T → Page T → List T

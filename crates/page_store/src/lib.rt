@@ -1,7 +1,6 @@
 //! A list in pages, which two owners can share until one of them writes.
 #![tactic(auto)]
 
-mod base;
 mod page;
 mod store;
 

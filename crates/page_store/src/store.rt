@@ -2,11 +2,11 @@
 ghost use Rattle.std.specs.Prelude.{◌≡◌, ◌+◌, ◌*◌, ◌<◌, ◌≤◌, List, [], ◌∷◌, ◌++◌, Some, length, slice_get, slice_set, OnOk, OnErr, IfOk};
 ghost use Rattle.page_store.specs.Pages.{items_of, pieces_of, joined, ArePages, IsStore, page_count};
 
-use crate::base::Base;
 use crate::page::{PAGE_LEN, Page};
 use doom_edge::{Memory, Steps};
 use std::alloc::Global;
 use std::marker::Model;
+use std::sync::Arc;
 
 /// A list of items in pages of 32. A store begins as pages over one base, the items that it was made of. After a
 /// fork two stores share the base and all pages, and each copies a page before it first writes into it; so a fork
@@ -14,7 +14,7 @@ use std::marker::Model;
 /// item copied, or one page named or made shared.
 #[derive(Drop)]
 pub struct Store<T> {
-    base: Base<T>,
+    base: Arc<Vec<T>>,
     pages: Vec<Page<T>>,
     len: usize,
 }
@@ -24,33 +24,34 @@ impl<T> Model for Store<T> {
 
     ghost Value = { List T };
 
-    ghost use Rattle.page_store.specs.Pages.{base_items, pieces_of, joined, IsStore};
+    ghost use Rattle.std.specs.Arc.{arc_value};
+    ghost use Rattle.page_store.specs.Pages.{pieces_of, joined, IsStore};
 
-    ghost view = { λ store. joined (pieces_of (base_items store.base) store.pages.items) };
+    ghost view = { λ store. joined (pieces_of (arc_value store.base).items store.pages.items) };
 
-    ghost invariant = { λ store. IsStore (pieces_of (base_items store.base) store.pages.items) store.len };
+    ghost invariant = { λ store. IsStore (pieces_of (arc_value store.base).items store.pages.items) store.len };
 }
 
 impl<T: Copy + Send + Sync> Store<T> {
-    /// A store of no items. It takes no memory.
-    pub fn new(alloc: Global) -> Store<T>
-        ensures { result ≡ [] }
-    {
-        Store {
-            base: Base::Empty,
-            pages: Vec::new(alloc),
-            len: 0,
-        }
-    }
-
     /// A store of these items.
     pub fn from_list(alloc: Global, items: Vec<T>) -> Result<Store<T>, Memory>
         ensures { IfOk result (λ store. store ≡ items.items) }
     {
         let pages = pages_over(alloc, &items)?;
         let len = items.len();
-        let base = Base::of(alloc, items)?;
+        let base = match Arc::new(alloc, items) {
+            Ok(base) => base,
+            Err(_) => return Err(Memory),
+        };
         Ok(Store { base, pages, len })
+    }
+
+    /// Lets all items go. It takes no memory.
+    pub fn clear(&mut self)
+        ensures { self.new ≡ [] }
+    {
+        self.pages.clear();
+        self.len = 0;
     }
 
     /// How many items there are.
@@ -65,7 +66,7 @@ impl<T: Copy + Send + Sync> Store<T> {
         requires { i < length self.now }
         ensures { slice_get self.now i ≡ Some result }
     {
-        item_at(self.base.as_slice(), &self.pages, i)
+        item_at(&self.base, &self.pages, i)
     }
 
     /// Writes an item at a place. On `Memory` the list is as before.
@@ -78,7 +79,7 @@ impl<T: Copy + Send + Sync> Store<T> {
         ensures least { steps.old.pages ≤ steps.new.pages }
         ensures most { steps.new.pages ≤ steps.old.pages + 34 }
     {
-        set_item(self.base.as_slice(), &mut self.pages, i, item, steps)
+        set_item(&self.base, &mut self.pages, i, item, steps)
     }
 
     /// Appends an item. On `Memory` the list is as before.
@@ -93,7 +94,7 @@ impl<T: Copy + Send + Sync> Store<T> {
         if self.len == usize::MAX {
             return Err(Memory);
         }
-        push_item(self.base.as_slice(), &mut self.pages, self.len, item, steps)?;
+        push_item(&self.base, &mut self.pages, self.len, item, steps)?;
         self.len += 1;
         Ok(())
     }
@@ -107,8 +108,8 @@ impl<T: Copy + Send + Sync> Store<T> {
         ensures least { steps.old.pages ≤ steps.new.pages }
         ensures most { steps.new.pages ≤ steps.old.pages + 2 * page_count (length self.old) }
     {
-        let pages = share_all(self.base.as_slice(), &mut self.pages, steps)?;
-        let base = self.base.name_again()?;
+        let pages = share_all(&self.base, &mut self.pages, steps)?;
+        let base = Arc::try_clone(&self.base)?;
         Ok(Store {
             base,
             pages,
