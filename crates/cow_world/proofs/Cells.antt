@@ -61,13 +61,14 @@ numbered grid column row c r block has is = (λ test. onto test, λ same. back s
     onto test =
         elim (cases_Bool (is_in_grid grid.width grid.height c r)) [
           | inl within ↦
-            let hit : (cell_number grid.width c r == block) ≡ true = rw within at test in
-            let equal : cell_number grid.width c r ≡ block = (Decides-eqb (cell_number grid.width c r) block).0 hit in
-            same_block grid column row c r (inside grid column row has) (inside grid c r within) (equal ∙ sym is)
+              let hit : (cell_number grid.width c r == block) ≡ true = rw within at test in
+              let equal : cell_number grid.width c r ≡ block = (Decides-eqb (cell_number grid.width c r) block).0 hit in
+              same_block grid column row c r (inside grid column row has) (inside grid c r within) (equal ∙ sym is)
           | inr out ↦
-            let miss : false ≡ true = rw out at test in
-            absurd cc
+              let miss : false ≡ true = rw out at test in
+              absurd cc
         ]
+
     back : (c ≡ column) × (r ≡ row) → option_map_or (λ b. b == block) (cell_at grid c r) false ≡ true
     back same =
         let test : (cell_number grid.width column row == block) ≡ true = eq-eqb (cell_number grid.width column row) block is in
@@ -107,8 +108,8 @@ pub none_outside : (things : List Thing) (grid : Grid) (column row : ℤ) (order
 none_outside things grid column row order cell =
     elim (cases_Bool (is_in_grid grid.width grid.height column row)) [
       | inl within ↦
-        let wrong : Some (cell_number grid.width column row) ≡ None = rw within at cell in
-        absurd cc
+          let wrong : Some (cell_number grid.width column row) ≡ None = rw within at cell in
+          absurd cc
       | inr out ↦ none order out
     ]
   where

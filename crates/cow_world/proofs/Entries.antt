@@ -37,9 +37,9 @@ entries_of_others things i to grid (entry ∷ rest) were =
     let others = entries_of_others things i to grid rest (All-tail (IsEntry things grid) entry rest were) in
     elim (cases_Bool (is_other i entry)) [
       | inl other ↦
-        let apart : entry.thing ≢ i = λ same. absurd (let hit = eq-eqb entry.thing i same in let no : false ≡ true = rw hit at other in cc) in
-        let kept = entry_kept things now grid entry (omega (arith, length-set things i to)) (get_or-set_other things i entry.thing to no_thing apart) (All-head (IsEntry things grid) entry rest were) in
-        rw other (All-cons (IsEntry now grid) entry (filter (is_other i) rest) kept others)
+          let apart : entry.thing ≢ i = λ same. absurd (let hit = eq-eqb entry.thing i same in let no : false ≡ true = rw hit at other in cc) in
+          let kept = entry_kept things now grid entry (omega (arith, length-set things i to)) (get_or-set_other things i entry.thing to no_thing apart) (All-head (IsEntry things grid) entry rest were) in
+          rw other (All-cons (IsEntry now grid) entry (filter (is_other i) rest) kept others)
       | inr own ↦ rw own others
     ]
 

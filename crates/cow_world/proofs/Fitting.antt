@@ -28,10 +28,10 @@ each_set P xs i to d new old j below =
     let within : j < length xs = omega (arith, length-set xs i to) in
     elim (cases_eq j i) [
       | inl same ↦
-        let at : i < length xs = omega arith in
-        let there : P j to = subst (λ k. P k to) (sym same) new in
-        let reads : get_or (set xs i to) j d ≡ to = rw same (get_or-set_same xs i to d at) in
-        subst (P j) (sym reads) there
+          let at : i < length xs = omega arith in
+          let there : P j to = subst (λ k. P k to) (sym same) new in
+          let reads : get_or (set xs i to) j d ≡ to = rw same (get_or-set_same xs i to d at) in
+          subst (P j) (sym reads) there
       | inr other ↦ subst (P j) (sym (get_or-set_other xs i j to d other)) (old j within)
     ]
 
@@ -41,9 +41,9 @@ each_push P xs x d new old j below =
     elim (cases_lt j (length xs)) [
       | inl within ↦ subst (P j) (sym (get_or_append_left xs (x ∷ []) d j within)) (old j within)
       | inr last ↦
-        let is : length xs ≡ j = omega (arith, length-append xs (x ∷ [])) in
-        let there : P j x = subst (λ k. P k x) is new in
-        subst (P j) (sym (get_or_at xs x [] d j is)) there
+          let is : length xs ≡ j = omega (arith, length-append xs (x ∷ [])) in
+          let there : P j x = subst (λ k. P k x) is new in
+          subst (P j) (sym (get_or_at xs x [] d j is)) there
     ]
 
 -- a fact of what an option holds, from another fact of it
@@ -68,9 +68,9 @@ pub keeps-set_thing : (w : Gridded) (i : ℕ) (to : Thing) → i < length (parts
 keeps-set_thing w i to at same = record {
   level = λ level fits. record { live = tt; sectors = fits.sectors; specials = fits.specials; movers = fits.movers; lifts = fits.lifts; grid = fits.grid };
   tables = λ tables fits.
-  let KindIs : ℕ → Thing → Type 0 = λ j thing. j ≢ (parts w).player.thing → IsSome (kind_with tables thing.kind) in
-  let new : KindIs i to = λ other. subst (λ kind. IsSome (kind_with tables kind)) (sym same) (fits.kinds i at other) in
-  record { kinds = each_set KindIs (parts w).things i to no_thing new fits.kinds };
+      let KindIs : ℕ → Thing → Type 0 = λ j thing. j ≢ (parts w).player.thing → IsSome (kind_with tables thing.kind) in
+      let new : KindIs i to = λ other. subst (λ kind. IsSome (kind_with tables kind)) (sym same) (fits.kinds i at other) in
+      record { kinds = each_set KindIs (parts w).things i to no_thing new fits.kinds };
 }
 
 pub keeps-link : (w : Gridded) (thing : ℕ) (x y : _) → thing < length (parts w).things → KeepsFit w (link w thing x y)
@@ -95,23 +95,23 @@ keeps-push_thinker w thinker room =
         sectors = fits.sectors;
         specials = fits.specials;
         movers = λ j below. some_then (sector_at w j).mover (λ mover. moved_by (thinker_at w mover) ≡ Some j) (λ mover. moved_by (get_or (was ++ thinker ∷ []) mover Ended) ≡ Some j) (fits.movers j below)
-        (λ mover _ moves. elim (cases_lt mover (length was)) [
-          | inl within ↦ rw (get_or_append_left was (thinker ∷ []) Ended mover within) moves
-          | inr past ↦
-            let none : get_or was mover Ended ≡ Ended = get_or_past was mover Ended past in
-            let absent : None ≡ Some j = sym (ap moved_by none) ∙ moves in
-            absurd cc
-        ]);
+            (λ mover _ moves. elim (cases_lt mover (length was)) [
+              | inl within ↦ rw (get_or_append_left was (thinker ∷ []) Ended mover within) moves
+              | inr past ↦
+                  let none : get_or was mover Ended ≡ Ended = get_or_past was mover Ended past in
+                  let absent : None ≡ Some j = sym (ap moved_by none) ∙ moves in
+                  absurd cc
+            ]);
         lifts = elim (cases_Bool (is_lift thinker)) [
           | inl lift ↦
-            let few = room lift in
-            let more = sum_by-append weight was (thinker ∷ []) in
-            let one : weight thinker ≡ 1 = rw lift refl in
-            omega (arith, more, one, few)
+              let few = room lift in
+              let more = sum_by-append weight was (thinker ∷ []) in
+              let one : weight thinker ≡ 1 = rw lift refl in
+              omega (arith, more, one, few)
           | inr other ↦
-            let more = sum_by-append weight was (thinker ∷ []) in
-            let none : weight thinker ≡ 0 = rw other refl in
-            omega (arith, more, none, fits.lifts)
+              let more = sum_by-append weight was (thinker ∷ []) in
+              let none : weight thinker ≡ 0 = rw other refl in
+              omega (arith, more, none, fits.lifts)
         ];
         grid = fits.grid;
       };
@@ -127,16 +127,16 @@ keeps-set_thinker w i to at serves =
         sectors = fits.sectors;
         specials = fits.specials;
         movers = λ j below. some_then (sector_at w j).mover (λ mover. moved_by (thinker_at w mover) ≡ Some j) (λ mover. moved_by (get_or (set was i to) mover Ended) ≡ Some j) (fits.movers j below)
-        (λ mover names moves. elim (cases_eq mover i) [
-          | inl same ↦
-            let now : get_or (set was i to) mover Ended ≡ to = rw same (get_or-set_same was i to Ended at) in
-            rw now (serves.moves j below (names ∙ ap (λ (k : ℕ). Some k) same))
-          | inr other ↦ rw (get_or-set_other was i mover to Ended other) moves
-        ]);
+            (λ mover names moves. elim (cases_eq mover i) [
+              | inl same ↦
+                  let now : get_or (set was i to) mover Ended ≡ to = rw same (get_or-set_same was i to Ended at) in
+                  rw now (serves.moves j below (names ∙ ap (λ (k : ℕ). Some k) same))
+              | inr other ↦ rw (get_or-set_other was i mover to Ended other) moves
+            ]);
         lifts =
-        let more = sum_by-set weight was i to Ended at in
-        let no_more : weight to ≤ weight (get_or was i Ended) = weigh (is_lift to) (is_lift (get_or was i Ended)) serves.lift in
-        omega (arith, more, no_more, fits.lifts);
+            let more = sum_by-set weight was i to Ended at in
+            let no_more : weight to ≤ weight (get_or was i Ended) = weigh (is_lift to) (is_lift (get_or was i Ended)) serves.lift in
+            omega (arith, more, no_more, fits.lifts);
         grid = fits.grid;
       };
       tables = λ tables fits. record { kinds = fits.kinds };

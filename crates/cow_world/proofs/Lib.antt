@@ -1,5 +1,6 @@
-pub mod Fitting
-pub mod Writes
-pub mod Entries
-pub mod Opened
+mod Forks
 pub mod Cells
+pub mod Entries
+pub mod Fitting
+pub mod Opened
+pub mod Writes

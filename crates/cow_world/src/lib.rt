@@ -13,12 +13,12 @@ mod links;
 mod numbers;
 mod records;
 mod sectors;
-mod thinkers;
 mod things;
+mod thinkers;
 mod world;
 
 pub use fault::PlayFault;
 pub use grid::Grid;
-pub use kinds::{DoorKind, FloorKind, GlowKind, LightKind, PlatKind, Plane};
+pub use kinds::{DoorKind, FloorKind, GlowKind, LightKind, Plane, PlatKind};
 pub use records::{DoorPhase, LiftPhase, Player, Sector, Thing, Thinker};
 pub use world::World;

@@ -79,9 +79,9 @@ impl World {
         Ok(World {
             sectors: Store::from_list(alloc, opening_sectors(alloc, level)?)?,
             specials: Store::from_list(alloc, opening_specials(alloc, level)?)?,
-            things: Store::new(alloc),
+            things: Store::from_list(alloc, Vec::new(alloc))?,
             order: LinkOrder::new(alloc, grid.width * grid.height)?,
-            thinkers: Store::new(alloc),
+            thinkers: Store::from_list(alloc, Vec::new(alloc))?,
             acted: Vec::new(alloc),
             player: NO_PLAYER,
             rng: 0,
@@ -133,11 +133,10 @@ impl World {
     pub fn set_halted(&mut self, tic: u64, halt: Halt)
         ensures { self.new ≡ set_halted self.old tic halt }
     {
-        let alloc = *self.acted.allocator();
-        self.sectors = Store::new(alloc);
-        self.specials = Store::new(alloc);
-        self.things = Store::new(alloc);
-        self.thinkers = Store::new(alloc);
+        self.sectors.clear();
+        self.specials.clear();
+        self.things.clear();
+        self.thinkers.clear();
         self.acted.clear();
         self.player = NO_PLAYER;
         self.halted = Some((tic, halt));
