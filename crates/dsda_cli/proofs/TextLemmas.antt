@@ -1,5 +1,5 @@
 -- Lemmas on the texts of the inputs.
-use Rattle.std.proofs.Common.{◌≡◌, ℕ, Bool, true, false, List, [], ◌∷◌, length, map, nat_lt, cond, refl, ap, sym, ◌∙◌, Option, Some, None, option_map, vec_len, Vec, Global, rules}
+use Rattle.std.proofs.Common.{◌≡◌, ℕ, Bool, true, false, List, [], ◌∷◌, length, map, nat_lt, cond, refl, ap, sym, Option, Some, None, option_map, vec_len, Vec, Global}
 use Rattle.std.specs.Prelude.{MatchOption, IsSomeAnd}
 use Rattle.std.specs.List.{zip, find}
 use Rattle.dsda_cli.specs.Meaning.{too_large}

@@ -1,3 +1,4 @@
+pub use Rattle.first_fault.specs.FirstFault
 pub use Rattle.doom_edge.specs.Counts
 pub use Rattle.doom_edge.specs.Devices
 pub use Rattle.doom_edge.specs.MemShelf
@@ -8,6 +9,7 @@ pub use Rattle.build_edits.specs.Edits
 pub mod Refusal
 pub mod Commands
 pub mod Reading
+pub mod Judging
 pub mod Meaning
 pub mod Ending
 pub mod Inside

@@ -1,6 +1,6 @@
--- What a command line means: a function of its words and of the files that they name. It knows nothing of the order in
+-- What a command line means: what its words come to over the files that they name. It knows nothing of the order in
 -- which files are taken, put and pushed.
-use Rattle.std.specs.Prelude.{ℕ, false, map, fold, Result, Ok, Err, Option, Some, None, List, [], ◌∷◌, length, nat_lt, option_map, find, slice_get, unwrap_or}
+use Rattle.std.specs.Prelude.{◌≡◌, ℕ, false, map, fold, Result, Ok, Err, Option, Some, None, List, [], ◌∷◌, length, nat_lt, option_map, find, slice_get, unwrap_or}
 use Rattle.std.specs.List.{zip}
 use Rattle.std.specs.FinMap as map
 use Rattle.doom_edge.specs.Devices.{Files}
@@ -18,6 +18,7 @@ use Rattle.build_edits.specs.Edits.{seek_outcome, put_outcome, insert_outcome, d
 use Rattle.build_edits.specs.declared.fault.EditFault.{EditFault}
 use Rattle.dsda_cli.specs.Commands.{word_at, command_of, inputs_of, out_of}
 use Rattle.dsda_cli.specs.Reading.{demo_of}
+use Rattle.dsda_cli.specs.Judging.{Judgement, exactly, ◌>>=◌}
 use Rattle.dsda_cli.specs.declared.command.Command.{Command}
 use Rattle.dsda_cli.specs.declared.command.Command.TheVariants as command
 use Rattle.dsda_cli.specs.declared.command.Input.{Input}
@@ -28,12 +29,6 @@ use Rattle.dsda_cli.specs.declared.fault.InputFault.TheVariants as input_fault
 pub record Work : Type 0 where
   pub report : List ℕ
   pub demo : Option (List ℕ)
-
-infixl 10 ◌>>=◌
--- the second step goes on from what the first one gives; the first fault ends them
-abbrev pub ◌>>=◌ : {A B : Type 0} → Result A InputFault → (A → Result B InputFault) → Result B InputFault
-(Ok value) >>= next = next value
-(Err fault) >>= next = Err fault
 
 -- a text as a demo; its fault is the input's
 abbrev pub as_demo : Result Demo DemoFault → Result Demo InputFault
@@ -61,44 +56,45 @@ at_line line (Err fault) = Err (input_fault.Edit line fault)
 
 -- one command more; none is carried out after the first that is refused
 abbrev pub next_edit : Result Parts InputFault → Entry → Result Parts InputFault
-next_edit so_far entry = so_far >>= λ parts. at_line entry.line (edited_by entry.command parts)
+next_edit (Ok parts) entry = at_line entry.line (edited_by entry.command parts)
+next_edit (Err fault) entry = Err fault
 
 -- what the commands make of a tape, one after the other
 abbrev pub edits_of : List Entry → Parts → Result Parts InputFault
 edits_of entries parts = fold next_edit (Ok parts) entries
 
 -- the tics that a script leaves of a demo's
-unfoldable pub scripted : List ℕ → List Tic → Result (List Tic) InputFault
+unfoldable pub scripted : List ℕ → List Tic → Judgement (List Tic)
 scripted script tics = do
-  entries ← as_script (script_of false script)
-  parts ← edits_of entries (record { before = []; after = tics })
-  Ok (all_tics parts)
+  entries ← exactly (as_script (script_of false script))
+  parts ← exactly (edits_of entries (record { before = []; after = tics }))
+  exactly (Ok (all_tics parts))
 
 -- `edit`: the demo with the tics that the script leaves, and nothing to report
-unfoldable pub edited : List ℕ → List ℕ → Result Work InputFault
+unfoldable pub edited : List ℕ → List ℕ → Judgement Work
 edited demo script = do
-  before ← as_demo (demo_of demo)
+  before ← exactly (as_demo (demo_of demo))
   tics ← scripted script before.tics
-  Ok (record { report = []; demo = Some (written before.header tics) })
+  exactly (Ok (record { report = []; demo = Some (written before.header tics) }))
 
 -- the text of the input at a place
 abbrev pub text_at : List (List ℕ) → ℕ → List ℕ
 text_at texts place = unwrap_or (slice_get texts place) []
 
 -- what each command makes of the texts of its inputs
-abbrev pub worked : Command → List (List ℕ) → Result Work InputFault
+abbrev pub worked : Command → List (List ℕ) → Judgement Work
 worked command.Edit texts = edited (text_at texts 0) (text_at texts 1)
 
 -- the first input whose text is above its limit
 abbrev pub too_large : List Input → List (List ℕ) → Option (Input × List ℕ)
 too_large inputs texts = find (λ pair. nat_lt pair.0.limit (length pair.1)) (zip inputs texts)
 
-abbrev pub worked_unless : Command → List (List ℕ) → Option (Input × List ℕ) → Result Work InputFault
-worked_unless command texts (Some pair) = Err (input_fault.Large pair.0.word)
+abbrev pub worked_unless : Command → List (List ℕ) → Option (Input × List ℕ) → Judgement Work
+worked_unless command texts (Some pair) = exactly (Err (input_fault.Large pair.0.word))
 worked_unless command texts None = worked command texts
 
 -- the first text above its limit is refused before any text is read
-abbrev pub answer_of : Command → List (List ℕ) → Result Work InputFault
+abbrev pub answer_of : Command → List (List ℕ) → Judgement Work
 answer_of command texts = worked_unless command texts (too_large (inputs_of command) texts)
 
 -- the values, where each is there
@@ -127,14 +123,11 @@ abbrev pub outcome_under : List ℕ → Result Work InputFault → Outcome
 outcome_under name (Err fault) = Refusal fault
 outcome_under name (Ok work) = Reported work.report (option_map (λ bytes. (name, bytes)) work.demo)
 
-abbrev pub outcome_from : List (List ℕ) → Command → Option (List (List ℕ)) → Outcome
-outcome_from words command None = Unheld
-outcome_from words command (Some texts) = outcome_under (word_at words (out_of command)) (answer_of command texts)
-
-abbrev pub outcome_for : List (List ℕ) → Files → Option Command → Outcome
-outcome_for words files None = Misused
-outcome_for words files (Some command) = outcome_from words command (contents files words (inputs_of command))
-
--- what the words come to over these files
-abbrev pub outcome_of : List (List ℕ) → Files → Outcome
-outcome_of words files = outcome_for words files (command_of words)
+-- What the words come to over these files.
+pub data Means (words : List (List ℕ)) (files : Files) (outcome : Outcome) : Type 0 where
+  -- the words ask for nothing
+  misused : command_of words ≡ None → outcome ≡ Misused → Means words files outcome
+  -- an input of the command that they ask for isn't held
+  unheld : (command : Command) → command_of words ≡ Some command → contents files words (inputs_of command) ≡ None → outcome ≡ Unheld → Means words files outcome
+  -- all are, and their texts have a right answer
+  answered : (command : Command) (texts : List (List ℕ)) (answer : Result Work InputFault) → command_of words ≡ Some command → contents files words (inputs_of command) ≡ Some texts → answer_of command texts answer → outcome ≡ outcome_under (word_at words (out_of command)) answer → Means words files outcome

@@ -1,11 +1,10 @@
 // The top call: a command line, carried out over a shelf and a sink.
-ghost use Rattle.std.specs.Prelude.{◌≡◌, ◌≤◌, ◌↔◌, Some, None, option_map, IfOk, IfSome, Result};
+ghost use Rattle.std.specs.Prelude.{◌≡◌, ◌≤◌, ◌↔◌, Some, None, option_map, IfOk, IfSome};
 ghost use Rattle.dsda_cli.specs.Refusal.{line_of};
 ghost use Rattle.dsda_cli.specs.Commands.{command_of, word_at, out_of};
-ghost use Rattle.dsda_cli.specs.Meaning.{Work, Reported, outcome_under};
+ghost use Rattle.dsda_cli.specs.Meaning.{Reported};
 ghost use Rattle.dsda_cli.specs.Ending.{seen, EndsAs, Ends, IsLater, IsQuiet, Answers};
-ghost use Rattle.dsda_cli.specs.Inside.{Gives, TellsRefusal};
-ghost use Rattle.dsda_cli.specs.declared.fault.InputFault.{InputFault};
+ghost use Rattle.dsda_cli.specs.Inside.{EndsBy, TellsRefusal};
 
 use crate::command::{Command, command_of, inputs_of, out_of};
 use crate::deliver::{push_text, put_demo, status_of_push, status_of_put, status_of_take};
@@ -89,8 +88,7 @@ fn conclude<S: Shelf, N: Sink>(
     shelf: &mut S,
     note: &mut N,
 ) -> Status
-    ensures ends { (answer : Result Work InputFault) → Gives (λ work. work) judged answer
-        → EndsAs (S.sure shelf.old × N.sure note.old) (outcome_under name.now answer)
+    ensures ends { EndsBy (S.sure shelf.old × N.sure note.old) name.now judged
         (seen S.Shelf N.Sink shelf.old note.old) (seen S.Shelf N.Sink shelf.new note.new) result }
     ensures later { IsLater (seen S.Shelf N.Sink shelf.old note.old) (seen S.Shelf N.Sink shelf.new note.new) }
     ensures used { result ≡ Status.Usage → ⊥ }

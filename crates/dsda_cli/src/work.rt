@@ -2,6 +2,7 @@
 ghost use Rattle.std.specs.Prelude.{◌≡◌, ◌≤◌, map, option_map, length, IfOk};
 ghost use Rattle.lmp_codec.specs.Demo.{most_tics};
 ghost use Rattle.dsda_cli.specs.Reading.{demo_of};
+ghost use Rattle.dsda_cli.specs.Judging.{exactly};
 ghost use Rattle.dsda_cli.specs.Meaning.{as_demo, edited, worked, answer_of, too_large, text_at};
 ghost use Rattle.dsda_cli.specs.Inside.{Gives};
 
@@ -68,7 +69,7 @@ fn edit(alloc: Global, demo: &[u8], script: &[u8]) -> Result<Product, Stop>
 
 /// The demo that the text is.
 fn read(alloc: Global, text: &[u8]) -> Result<Demo, Stop>
-    ensures read { Gives (λ demo. demo) result (as_demo (demo_of text.now)) }
+    ensures read { Gives (λ demo. demo) result (exactly (as_demo (demo_of text.now))) }
     ensures within { IfOk result (λ demo. length demo.tics ≤ most_tics) }
 {
     Ok(read_demo(alloc, text)?)
