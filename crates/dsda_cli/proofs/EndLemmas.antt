@@ -4,7 +4,7 @@ use Rattle.doom_edge.specs.Counts.{Rose}
 use Rattle.doom_edge.specs.Devices.{Files}
 use Rattle.doom_edge.specs.declared.shelf.TakeFault.{TakeFault}
 use Rattle.doom_edge.specs.declared.shelf.TakeFault.TheVariants as take_fault
-use Rattle.dsda_cli.specs.Commands.{word_at, command_of, inputs_of, out_of}
+use Rattle.dsda_cli.specs.Commands.{command_of, inputs_of, out_name}
 use Rattle.dsda_cli.specs.Meaning.{Work, answer_of, contents, Outcome, Unheld, Refusal, outcome_under, Means}
 use Rattle.dsda_cli.specs.Ending.{Seen, status_of, told_of, put_of, with_put, IsDelivered, IsPutFault, EndsAs, StopsBy, IsUntouched, Stops, Concludes, Ends, IsQuiet, Answers}
 use Rattle.dsda_cli.specs.Inside.{front_of, Gives, EndsBy, status_of_take}
@@ -86,14 +86,14 @@ take_fault_stops words command before after take_fault.Memory is took cause miss
 }
 
 -- What was judged ends the run: as the words come to, or for want of memory.
-pub judged_ends : {sure_then sure_now : Type 0} (stays : sure_then → sure_now) (words : List (List ℕ)) (command : Command) (texts : List (List ℕ)) (judged : Result Work Stop) (before mid after : Seen) (ended : Status) → command_of words ≡ Some command → IfSome before.files (λ files. map (front_of files words) (inputs_of command) ≡ map Some texts) → OnlyTook before mid → Gives (λ work. work) judged (answer_of command texts) → EndsBy sure_now (word_at words (out_of command)) judged mid after ended → Stops sure_then words before after ended ⊎ Concludes sure_then words before after ended
+pub judged_ends : {sure_then sure_now : Type 0} (stays : sure_then → sure_now) (words : List (List ℕ)) (command : Command) (texts : List (List ℕ)) (judged : Result Work Stop) (before mid after : Seen) (ended : Status) → command_of words ≡ Some command → IfSome before.files (λ files. map (front_of files words) (inputs_of command) ≡ map Some texts) → OnlyTook before mid → Gives (λ work. work) judged (answer_of command texts) → EndsBy sure_now (out_name words command) judged mid after ended → Stops sure_then words before after ended ⊎ Concludes sure_then words before after ended
 judged_ends stays words command texts (Ok work) before mid after ended is taken took right ends = inr (record {
-  outcome = outcome_under (word_at words (out_of command)) (Ok work);
+  outcome = outcome_under (out_name words command) (Ok work);
   meant = taken_meant before.files words command texts (Ok work) is taken right.right;
-  ends = ends_behind stays (outcome_under (word_at words (out_of command)) (Ok work)) before mid after ended took ends;
+  ends = ends_behind stays (outcome_under (out_name words command) (Ok work)) before mid after ended took ends;
 })
 judged_ends stays words command texts (Err (stop.Refused fault)) before mid after ended is taken took right ends = inr (record {
-  outcome = outcome_under (word_at words (out_of command)) (Err fault);
+  outcome = outcome_under (out_name words command) (Err fault);
   meant = taken_meant before.files words command texts (Err fault) is taken right.right;
   ends = ends_behind stays (Refusal fault) before mid after ended took ends;
 })

@@ -1,7 +1,7 @@
 -- One piece of work after the other: what each `?` gives.
 use Rattle.std.proofs.Common.{◌≡◌, Result, Ok, Err, refl, sym, subst}
 use Rattle.std.specs.Prelude.{IsErrAnd}
-use Rattle.dsda_cli.specs.Judging.{Judgement, exactly, Then, goes_on, ends}
+use Rattle.dsda_cli.specs.Judging.{Judgement, exactly, such_that, Then, goes_on, ends}
 use Rattle.dsda_cli.specs.Inside.{IsRight, Gives}
 use Rattle.dsda_cli.specs.declared.product.Stop.{Stop}
 use Rattle.dsda_cli.specs.declared.product.Stop.TheVariants as stop
@@ -25,6 +25,11 @@ stopped {seen = seen} {view = view} {first = first} {next = next} {why = why} {g
 pub further : {A B X Y : Type 0} {seen : X → A} {view : Y → B} {first : Judgement A} {next : A → Judgement B} {value : X} {given : Result Y Stop} → Gives seen (Ok value) first → Gives view given (next (seen value)) → Gives view given (Then first next)
 further {seen = seen} {view = view} {first = first} {next = next} {value = value} {given = given} made rest =
     record { right = goes_further view first next (seen value) given made.right rest.right }
+
+-- the second goes on from a value of which that holds
+pub chosen : {A B Y : Type 0} {view : Y → B} {Holds : A → Type 0} {next : A → Judgement B} {given : Result Y Stop} (value : A) → Holds value → Gives view given (next value) → Gives view given (Then (such_that Holds) next)
+chosen {view = view} {Holds = Holds} {next = next} {given = given} value holds rest =
+    record { right = goes_further view (such_that Holds) next value given holds rest.right }
 
 mapped_right : {A B X : Type 0} (seen : X → A) (f : A → B) (first : Judgement A) (given : Result X Stop) → IsRight seen first given → IsRight (λ value. f (seen value)) (Then first (λ value. exactly (Ok (f value)))) given
 mapped_right seen f first (Ok value) right = goes_on (seen value) right refl

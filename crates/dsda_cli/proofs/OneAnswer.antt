@@ -1,15 +1,24 @@
 -- Work has one right answer.
-use Rattle.std.proofs.Common.{◌≡◌, ℕ, List, Result, Ok, Err, Option, Some, None, refl, ap, sym, ◌∙◌, subst}
+use Rattle.std.proofs.Common.{Bool, ◌≡◌, ℕ, List, Result, Ok, Err, Option, Some, None, refl, ap, sym, ◌∙◌, subst}
 use Rattle.first_fault.specs.FirstFault.{Condition}
 use Rattle.first_fault.proofs.Order.{one_outcome}
 use Rattle.doom_edge.specs.Devices.{Files}
 use Rattle.dsda_cli.specs.Commands.{inputs_of}
 use Rattle.dsda_cli.specs.Judging.{Judgement, exactly, judged, Then, goes_on, ends}
-use Rattle.dsda_cli.specs.Meaning.{scripted, edited, text_at, worked, worked_unless, too_large, answer_of, Outcome, Means, misused, unheld, answered}
+use Rattle.dsda_cli.specs.Meaning.{scripted, edited, level_in, levelled, text_at, worked, worked_unless, too_large, answer_of, Outcome, Means, misused, unheld, answered}
 use Rattle.dsda_cli.specs.declared.command.Command.{Command}
 use Rattle.dsda_cli.specs.declared.command.Command.TheVariants as command
 use Rattle.dsda_cli.specs.declared.command.Input.{Input}
 use Rattle.dsda_cli.specs.declared.fault.InputFault.{InputFault}
+use Rattle.dsda_cli.specs.declared.fault.InputFault.TheVariants as input_fault
+use Rattle.wad_lumps.specs.Directory.{file_conditions}
+use Rattle.wad_lumps.specs.Map.{map_conditions, IsMap}
+use Rattle.fixed_angle.specs.TableFile.{table_conditions}
+use Rattle.dsda_cli.specs.LevelReport.{episode_of, map_of}
+use Rattle.wad_lumps.specs.declared.map.MapSpans.{MapSpans}
+use Rattle.map_geometry.specs.Lists.{Lists}
+use Rattle.map_load.specs.Load.{level_conditions}
+use Rattle.map_load.specs.Spelled.{spelled}
 
 -- two right answers are one
 abbrev IsOne : {A : Type 0} → Judgement A → Type 0
@@ -52,29 +61,59 @@ one_edited : (demo script : List ℕ) → IsOne (edited demo script)
 unfolding edited
 one_edited demo script = one_then _ _ (one_exactly _) (λ before. one_then _ _ (one_scripted script before.tics) (λ tics. one_exactly _))
 
-one_worked : (command : Command) (texts : List (List ℕ)) → IsOne (worked command texts)
-one_worked command.Edit texts = one_edited (text_at texts 0) (text_at texts 1)
+-- what a WAD's directory says of a map, so far as a level comes from it, is said once
+abbrev pub OneMap : Type 0
+OneMap = (w : List ℕ) (episode map : ℕ) (a b : MapSpans) → IsMap w episode map a → IsMap w episode map b → (a.label ≡ b.label) × (a.spans.items ≡ b.spans.items) × (a.episode_form ≡ b.episode_form) × (a.other_form ≡ b.other_form)
 
-one_unless : (command : Command) (texts : List (List ℕ)) (large : Option (Input × List ℕ)) → IsOne (worked_unless command texts large)
-one_unless command texts None = one_worked command texts
-one_unless command texts (Some pair) = one_exactly _
+-- the level of these lumps
+abbrev level_of : List ℕ → List (ℕ × ℕ) → (other_form episode_form : Bool) → Judgement Lists
+level_of wad spans other_form episode_form =
+    Then (judged (level_conditions wad spans other_form episode_form) input_fault.Level) (λ _. exactly (Ok (spelled wad spans episode_form)))
+
+one_level_of : (wad : List ℕ) (spans : List (ℕ × ℕ)) (other_form episode_form : Bool) → IsOne (level_of wad spans other_form episode_form)
+one_level_of wad spans other_form episode_form = one_then _ _ (one_judged (level_conditions wad spans other_form episode_form) input_fault.Level) (λ _. one_exactly _)
+
+same_level : (wad : List ℕ) (found other : MapSpans) (a b : Result Lists InputFault) → (found.spans.items ≡ other.spans.items) → (found.episode_form ≡ other.episode_form) → (found.other_form ≡ other.other_form) → level_of wad found.spans.items found.other_form found.episode_form a → level_of wad other.spans.items other.other_form other.episode_form b → a ≡ b
+same_level wad found other a b spans episode_form other_form first second =
+    one_level_of wad other.spans.items other.other_form other.episode_form a b (rw (spans, episode_form, other_form) at first) second
+
+one_level_in : OneMap → (wad header : List ℕ) → IsOne (level_in wad header)
+unfolding level_in
+one_level_in one_map wad header = one_then _ _ (one_judged (map_conditions wad (episode_of header) (map_of header)) input_fault.Wad) (λ _.
+    one_by _ _ (λ found fault is wrong. wrong) (λ f g wrong wrong'. absurd wrong)
+    (λ found other a b is is' first second.
+    let same = one_map wad (episode_of header) (map_of header) found other is is' in
+    same_level wad found other a b same.1 same.2 same.3 first second))
+
+one_levelled : OneMap → (wad tables demo : List ℕ) → IsOne (levelled wad tables demo)
+unfolding levelled
+one_levelled one_map wad tables demo =
+    one_then _ _ (one_judged (file_conditions wad) input_fault.Wad) (λ _. one_then _ _ (one_judged (table_conditions tables) input_fault.Tables) (λ _. one_then _ _ (one_exactly _) (λ played. one_then _ _ (one_level_in one_map wad played.header) (λ level. one_exactly _))))
+
+one_worked : OneMap → (command : Command) (texts : List (List ℕ)) → IsOne (worked command texts)
+one_worked one_map command.Edit texts = one_edited (text_at texts 0) (text_at texts 1)
+one_worked one_map command.Level texts = one_levelled one_map (text_at texts 0) (text_at texts 1) (text_at texts 2)
+
+one_unless : OneMap → (command : Command) (texts : List (List ℕ)) (large : Option (Input × List ℕ)) → IsOne (worked_unless command texts large)
+one_unless one_map command texts None = one_worked one_map command texts
+one_unless one_map command texts (Some pair) = one_exactly _
 
 -- the words come to one outcome
-pub one_meaning : (words : List (List ℕ)) (files : Files) (a b : Outcome) → Means words files a → Means words files b → a ≡ b
-one_meaning words files a b (misused none is) (misused none' is') = is ∙ sym is'
-one_meaning words files a b (misused none is) (unheld command asked missing is') = absurd cc
-one_meaning words files a b (misused none is) (answered command texts answer asked held right is') = absurd cc
-one_meaning words files a b (unheld command asked missing is) (misused none is') = absurd cc
-one_meaning words files a b (unheld command asked missing is) (unheld command' asked' missing' is') = is ∙ sym is'
-one_meaning words files a b (unheld command asked missing is) (answered command' texts answer asked' held right is') =
+pub one_meaning : OneMap → (words : List (List ℕ)) (files : Files) (a b : Outcome) → Means words files a → Means words files b → a ≡ b
+one_meaning one_map words files a b (misused none is) (misused none' is') = is ∙ sym is'
+one_meaning one_map words files a b (misused none is) (unheld command asked missing is') = absurd cc
+one_meaning one_map words files a b (misused none is) (answered command texts answer asked held right is') = absurd cc
+one_meaning one_map words files a b (unheld command asked missing is) (misused none is') = absurd cc
+one_meaning one_map words files a b (unheld command asked missing is) (unheld command' asked' missing' is') = is ∙ sym is'
+one_meaning one_map words files a b (unheld command asked missing is) (answered command' texts answer asked' held right is') =
     let same : command ≡ command' = cc in absurd cc
-one_meaning words files a b (answered command texts answer asked held right is) (misused none is') = absurd cc
-one_meaning words files a b (answered command texts answer asked held right is) (unheld command' asked' missing is') =
+one_meaning one_map words files a b (answered command texts answer asked held right is) (misused none is') = absurd cc
+one_meaning one_map words files a b (answered command texts answer asked held right is) (unheld command' asked' missing is') =
     let same : command ≡ command' = cc in absurd cc
-one_meaning words files a b (answered command texts answer asked held right is) (answered command' texts' answer' asked' held' right' is') =
+one_meaning one_map words files a b (answered command texts answer asked held right is) (answered command' texts' answer' asked' held' right' is') =
     let same : command ≡ command' = cc in
     let same_texts : texts ≡ texts' = cc in
     let moved = subst (λ (command : Command). answer_of command texts answer) same right in
     let moved' = subst (λ (texts : List (List ℕ)). answer_of command' texts answer) same_texts moved in
-    let one = one_unless command' texts' (too_large (inputs_of command') texts') answer answer' moved' right' in
+    let one = one_unless one_map command' texts' (too_large (inputs_of command') texts') answer answer' moved' right' in
     cc

@@ -9,6 +9,12 @@ use Rattle.doom_edge.specs.declared.shelf.PutFault.{PutFault}
 use Rattle.doom_edge.specs.declared.shelf.PutFault.TheVariants as put_fault
 use Rattle.doom_edge.specs.declared.sink.PushFault.{PushFault}
 use Rattle.doom_edge.specs.declared.sink.PushFault.TheVariants as push_fault
+use Rattle.wad_lumps.specs.declared.fault.WadFault.{WadFault}
+use Rattle.wad_lumps.specs.declared.fault.WadFault.TheVariants as wad_fault
+use Rattle.fixed_angle.specs.declared.fault.TabFault.{TabFault}
+use Rattle.fixed_angle.specs.declared.fault.TabFault.TheVariants as tables_fault
+use Rattle.map_geometry.specs.declared.fault.LevelFault.{LevelFault}
+use Rattle.map_geometry.specs.declared.fault.LevelFault.TheVariants as level_fault
 use Rattle.lmp_codec.specs.declared.fault.DemoFault.{DemoFault}
 use Rattle.lmp_codec.specs.declared.fault.DemoFault.TheVariants as demo_fault
 use Rattle.build_script.specs.declared.fault.ScriptFault.{ScriptFault}
@@ -31,6 +37,21 @@ use Rattle.dsda_cli.specs.declared.status.Status.TheVariants as status
 -- what is asked for of an input: one byte more than its limit
 abbrev pub front_of : Files → List (List ℕ) → Input → Option (List ℕ)
 front_of files words input = option_map (take (input.limit + 1)) (map.get files (word_at words input.word))
+
+-- a WAD's fault, or its map's, as an end of the work
+abbrev pub stop_of_wad : WadFault → Stop
+stop_of_wad wad_fault.Memory = stop.Memory
+stop_of_wad fault = stop.Refused (input_fault.Wad fault)
+
+-- a table file's fault as an end of the work
+abbrev pub stop_of_tables : TabFault → Stop
+stop_of_tables tables_fault.Memory = stop.Memory
+stop_of_tables fault = stop.Refused (input_fault.Tables fault)
+
+-- a level's fault as an end of the work
+abbrev pub stop_of_level : LevelFault → Stop
+stop_of_level level_fault.Memory = stop.Memory
+stop_of_level fault = stop.Refused (input_fault.Level fault)
 
 -- a demo's fault as an end of the work
 abbrev pub stop_of_demo : DemoFault → Stop
@@ -96,7 +117,7 @@ TellsRefusal sure fault text pushes after now other = ⊥
 
 -- How a run ends from what its inputs were judged to: as the outcome under this name says, or with nothing put and nothing
 -- pushed, for want of memory.
-abbrev pub EndsBy : Type 0 → List ℕ → Result Work Stop → Seen → Seen → Status → Type 0
+abbrev pub EndsBy : Type 0 → Option (List ℕ) → Result Work Stop → Seen → Seen → Status → Type 0
 EndsBy sure name (Ok work) before after ended = EndsAs sure (outcome_under name (Ok work)) before after ended
 EndsBy sure name (Err (stop.Refused fault)) before after ended = EndsAs sure (outcome_under name (Err fault)) before after ended
 EndsBy sure name (Err stop.Memory) before after ended = (ended ≡ status.Memory) × IsUntouched before after

@@ -3,6 +3,11 @@ pub use Rattle.doom_edge.specs.Counts
 pub use Rattle.doom_edge.specs.Devices
 pub use Rattle.doom_edge.specs.MemShelf
 pub use Rattle.lmp_codec.specs.Demo
+pub use Rattle.wad_lumps.specs.Directory
+pub use Rattle.wad_lumps.specs.Map
+pub use Rattle.fixed_angle.specs.TableFile
+pub use Rattle.map_load.specs.Load
+pub use Rattle.map_load.specs.Spelled
 pub use Rattle.build_script.specs.Script
 pub use Rattle.build_edits.specs.Parts
 pub use Rattle.build_edits.specs.Edits
@@ -10,6 +15,7 @@ pub mod Refusal
 pub mod Commands
 pub mod Reading
 pub mod Judging
+pub mod LevelReport
 pub mod Meaning
 pub mod Ending
 pub mod Inside

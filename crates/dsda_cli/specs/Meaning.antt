@@ -8,6 +8,12 @@ use Rattle.lmp_codec.specs.Demo.{written}
 use Rattle.lmp_codec.specs.declared.input.Tic.{Tic}
 use Rattle.lmp_codec.specs.declared.whole.Demo.{Demo}
 use Rattle.lmp_codec.specs.declared.fault.DemoFault.{DemoFault}
+use Rattle.wad_lumps.specs.Directory.{file_conditions}
+use Rattle.wad_lumps.specs.Map.{map_conditions, IsMap}
+use Rattle.fixed_angle.specs.TableFile.{table_conditions}
+use Rattle.map_geometry.specs.Lists.{Lists}
+use Rattle.map_load.specs.Load.{level_conditions}
+use Rattle.map_load.specs.Spelled.{spelled}
 use Rattle.build_script.specs.Script.{script_of}
 use Rattle.build_script.specs.declared.fault.Kind.{Kind}
 use Rattle.build_script.specs.declared.commands.Entry.{Entry}
@@ -16,9 +22,10 @@ use Rattle.build_script.specs.declared.commands.Command.TheVariants as script
 use Rattle.build_edits.specs.Parts.{Parts, all_tics}
 use Rattle.build_edits.specs.Edits.{seek_outcome, put_outcome, insert_outcome, delete_outcome, cut_outcome, repeat_outcome}
 use Rattle.build_edits.specs.declared.fault.EditFault.{EditFault}
-use Rattle.dsda_cli.specs.Commands.{word_at, command_of, inputs_of, out_of}
+use Rattle.dsda_cli.specs.Commands.{word_at, command_of, inputs_of, out_name}
 use Rattle.dsda_cli.specs.Reading.{demo_of}
-use Rattle.dsda_cli.specs.Judging.{Judgement, exactly, ◌>>=◌}
+use Rattle.dsda_cli.specs.LevelReport.{episode_of, map_of, level_lines}
+use Rattle.dsda_cli.specs.Judging.{Judgement, exactly, judged, such_that, ◌>>=◌, ◌>>◌}
 use Rattle.dsda_cli.specs.declared.command.Command.{Command}
 use Rattle.dsda_cli.specs.declared.command.Command.TheVariants as command
 use Rattle.dsda_cli.specs.declared.command.Input.{Input}
@@ -77,6 +84,23 @@ edited demo script = do
   tics ← scripted script before.tics
   exactly (Ok (record { report = []; demo = Some (written before.header tics) }))
 
+-- the level of the map that a demo's header names
+unfoldable pub level_in : List ℕ → List ℕ → Judgement Lists
+level_in wad header = do
+  judged (map_conditions wad (episode_of header) (map_of header)) input_fault.Wad
+  found ← such_that (IsMap wad (episode_of header) (map_of header))
+  judged (level_conditions wad found.spans.items found.other_form found.episode_form) input_fault.Level
+  exactly (Ok (spelled wad found.spans.items found.episode_form))
+
+-- `level`: what the level is made of. The tables serve its play, and are judged with it.
+unfoldable pub levelled : List ℕ → List ℕ → List ℕ → Judgement Work
+levelled wad tables demo = do
+  judged (file_conditions wad) input_fault.Wad
+  judged (table_conditions tables) input_fault.Tables
+  played ← exactly (as_demo (demo_of demo))
+  level ← level_in wad played.header
+  exactly (Ok (record { report = level_lines played.header level; demo = None }))
+
 -- the text of the input at a place
 abbrev pub text_at : List (List ℕ) → ℕ → List ℕ
 text_at texts place = unwrap_or (slice_get texts place) []
@@ -84,6 +108,7 @@ text_at texts place = unwrap_or (slice_get texts place) []
 -- what each command makes of the texts of its inputs
 abbrev pub worked : Command → List (List ℕ) → Judgement Work
 worked command.Edit texts = edited (text_at texts 0) (text_at texts 1)
+worked command.Level texts = levelled (text_at texts 0) (text_at texts 1) (text_at texts 2)
 
 -- the first input whose text is above its limit
 abbrev pub too_large : List Input → List (List ℕ) → Option (Input × List ℕ)
@@ -118,10 +143,15 @@ pub data Outcome : Type 0 where
   -- the report, and the name and the bytes of the file that is put, if one is
   Reported : List ℕ → Option (List ℕ × List ℕ) → Outcome
 
+-- the demo under its name, where there are both
+abbrev pub put_under : Option (List ℕ) → Option (List ℕ) → Option (List ℕ × List ℕ)
+put_under (Some name) (Some demo) = Some (name, demo)
+put_under name demo = None
+
 -- the work, with its demo under this name, or the refusal
-abbrev pub outcome_under : List ℕ → Result Work InputFault → Outcome
+abbrev pub outcome_under : Option (List ℕ) → Result Work InputFault → Outcome
 outcome_under name (Err fault) = Refusal fault
-outcome_under name (Ok work) = Reported work.report (option_map (λ bytes. (name, bytes)) work.demo)
+outcome_under name (Ok work) = Reported work.report (put_under name work.demo)
 
 -- What the words come to over these files.
 pub data Means (words : List (List ℕ)) (files : Files) (outcome : Outcome) : Type 0 where
@@ -130,4 +160,4 @@ pub data Means (words : List (List ℕ)) (files : Files) (outcome : Outcome) : T
   -- an input of the command that they ask for isn't held
   unheld : (command : Command) → command_of words ≡ Some command → contents files words (inputs_of command) ≡ None → outcome ≡ Unheld → Means words files outcome
   -- all are, and their texts have a right answer
-  answered : (command : Command) (texts : List (List ℕ)) (answer : Result Work InputFault) → command_of words ≡ Some command → contents files words (inputs_of command) ≡ Some texts → answer_of command texts answer → outcome ≡ outcome_under (word_at words (out_of command)) answer → Means words files outcome
+  answered : (command : Command) (texts : List (List ℕ)) (answer : Result Work InputFault) → command_of words ≡ Some command → contents files words (inputs_of command) ≡ Some texts → answer_of command texts answer → outcome ≡ outcome_under (out_name words command) answer → Means words files outcome

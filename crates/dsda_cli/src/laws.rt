@@ -14,6 +14,7 @@ use crate::status::Status;
 use crate::words::Words;
 use doom_edge::{Gate, MemShelf, Steps, SureSink};
 use std::alloc::Global;
+use wad_lumps::one_answer;
 
 /// What the meaning of a command reads a demo's text as is the verdict on the text.
 pub fn one_reading()
@@ -23,7 +24,9 @@ pub fn one_reading()
 /// A command line comes to one outcome over the files that it names.
 pub fn one_meaning()
     ensures { (words : List (List ℕ)) (files : Files) (a b : Outcome) → Means words files a → Means words files b → a ≡ b }
-{}
+{
+    one_answer();
+}
 
 /// Over a new shelf in memory, no call of which is to fail, and a sink that never fails, a run ends as the words and the
 /// files come to, or for want of memory.

@@ -15,8 +15,8 @@ returns-in-Ok-clause-ends g c =
     let took : OnlyTook before mid = record { files = taken.holds; takes = taken.takes; puts = taken.puts; text = refl; pushes = refl } in
     let texts = map (λ text. text.items) c.in-Ok.texts.items in
     let told = told_lists (g.S.Shelf.holds c.args.shelf.now) c.args.words.now (inputs_of c.args.command) _ c.in-Ok.texts.items c.inputs_of.ensures c.in-Ok.ensures.told in
-    let judged = rw c.deref.ensures.value at c.judge.ensures in
-    let ended = rw (c.word.ensures, c.out_of.ensures) at c.conclude.ensures.ends in
+    let judged = c.judge.ensures in
+    let ended = rw c.out_name.ensures at c.conclude.ensures.ends in
     let later = c.conclude.ensures.later in
     record {
       ending = judged_ends (λ sure. (taken.stays_sure sure.0, sure.1)) c.args.words.now c.args.command texts c.judge.result before mid after c.conclude.result c.requires told took judged ended;

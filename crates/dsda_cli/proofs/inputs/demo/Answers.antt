@@ -2,7 +2,7 @@ use Rattle.std.proofs.Common.{ap, Ok}
 use Rattle.std.proofs.lemmas.Result.{err_from_is_err_and}
 use Rattle.dsda_cli.specs.Meaning.{as_demo}
 use Rattle.dsda_cli.proofs.ReadingLemmas.{demo_of-verdict, read_stops}
-use Rattle.dsda_cli.proofs.work.read.Goals as goal
+use Rattle.dsda_cli.proofs.inputs.demo.Goals as goal
 
 pub returns-in_err-read_demo-clause-read : goal.returns-in_err-read_demo-clause-read
 returns-in_err-read_demo-clause-read c =
