@@ -1,5 +1,5 @@
 -- The commands of a script, one after the other.
-use Rattle.std.proofs.Common.{◌≡◌, ◌<◌, ◌+◌, ℕ, List, [], ◌∷◌, ◌++◌, length, take, drop, fold, get_or, refl, ap, sym, ◌∙◌, Result, Ok, Err}
+use Rattle.std.proofs.Common.{◌≡◌, ◌<◌, ◌+◌, ℕ, List, [], ◌∷◌, length, take, drop, fold, get_or, refl, ap, sym, ◌∙◌, Ok, Err}
 use Rattle.std.proofs.lemmas.List.Sums.{fold_more, fold-append}
 use Rattle.std.proofs.lemmas.List.{take-append-drop}
 use Rattle.build_script.specs.declared.commands.Entry.{Entry}
@@ -7,6 +7,7 @@ use Rattle.build_edits.specs.Parts.{Parts}
 use Rattle.build_edits.specs.Edits.{MayEdit}
 use Rattle.build_edits.specs.declared.fault.EditFault.{EditFault}
 use Rattle.build_edits.specs.declared.fault.EditFault.TheVariants.{Place, Before, TooLong, Memory}
+use Rattle.dsda_cli.specs.Judging.{exactly}
 use Rattle.dsda_cli.specs.Meaning.{edited_by, at_line, next_edit, edits_of}
 use Rattle.dsda_cli.specs.Inside.{Gives, stop_of_edit}
 use Rattle.dsda_cli.specs.declared.fault.InputFault.{InputFault}
@@ -34,8 +35,8 @@ edits_err entries place start now d fault inside so_far is =
     ∙ edits_refused (drop (place + 1) entries) (input_fault.Edit (get_or entries place d).line fault)
 
 -- the refusal of a command is that of the script
-pub edits_stop : (entries : List Entry) (place : ℕ) (start now next : Parts) (d : Entry) (fault : EditFault) → place < length entries → edits_of (take place entries) start ≡ Ok now → MayEdit {D = Unit {0}} (Err fault) now next (edited_by (get_or entries place d).command now) → Gives (λ parts. parts) (Err (stop_of_edit (get_or entries place d).line fault)) (edits_of entries start)
-edits_stop entries place start now next d (Place count) inside so_far refused = edits_err entries place start now d (Place count) inside so_far refused.0
-edits_stop entries place start now next d Before inside so_far refused = edits_err entries place start now d Before inside so_far refused.0
-edits_stop entries place start now next d TooLong inside so_far refused = edits_err entries place start now d TooLong inside so_far refused.0
-edits_stop entries place start now next d Memory inside so_far refused = tt
+pub edits_stop : (entries : List Entry) (place : ℕ) (start now next : Parts) (d : Entry) (fault : EditFault) → place < length entries → edits_of (take place entries) start ≡ Ok now → MayEdit {D = Unit {0}} (Err fault) now next (edited_by (get_or entries place d).command now) → Gives (λ parts. parts) (Err (stop_of_edit (get_or entries place d).line fault)) (exactly (edits_of entries start))
+edits_stop entries place start now next d (Place count) inside so_far refused = record { right = edits_err entries place start now d (Place count) inside so_far refused.0 }
+edits_stop entries place start now next d Before inside so_far refused = record { right = edits_err entries place start now d Before inside so_far refused.0 }
+edits_stop entries place start now next d TooLong inside so_far refused = record { right = edits_err entries place start now d TooLong inside so_far refused.0 }
+edits_stop entries place start now next d Memory inside so_far refused = record { right = tt }

@@ -4,3 +4,5 @@ pub mod MeaningLemmas
 pub mod EndLemmas
 pub mod ReadingLemmas
 pub mod EditLemmas
+pub mod JudgingLemmas
+pub mod OneAnswer

@@ -1,16 +1,16 @@
 -- What was taken, one byte more of each input than its limit, means what the whole files mean.
-use Rattle.std.proofs.Common.{◌≡◌, ◌≤◌, ◌<◌, ◌+◌, ◌⊎◌, inl, inr, ℕ, suc, Bool, true, false, cond, min, nat_lt, List, [], ◌∷◌, length, map, take, refl, ap, sym, ◌∙◌, Option, Some, None, option_map, Err, IfSome, arith, rules}
+use Rattle.std.proofs.Common.{◌≡◌, ◌≤◌, ◌+◌, ◌⊎◌, inl, inr, ℕ, Bool, true, false, min, nat_lt, List, [], ◌∷◌, length, map, take, refl, ap, sym, ◌∙◌, Option, Some, None, option_map, Result, Err, IfSome, subst, arith}
 use Rattle.std.proofs.lemmas.Bool.Decides.{nat_tests}
 use Rattle.std.proofs.lemmas.Bool.{ltb-false}
 use Rattle.std.proofs.lemmas.List.{length-take, take_all}
-use Rattle.std.specs.List.{zip, find}
 use Rattle.std.specs.FinMap as map
 use Rattle.doom_edge.specs.Devices.{Files}
-use Rattle.dsda_cli.specs.Commands.{word_at, command_of, inputs_of, out_of}
-use Rattle.dsda_cli.specs.Meaning.{contents, all_of, too_large, worked, worked_unless, answer_of, Outcome, Unheld, outcome_under, outcome_for, outcome_from, outcome_of}
+use Rattle.dsda_cli.specs.Commands.{word_at, command_of, inputs_of, out_name}
+use Rattle.dsda_cli.specs.Meaning.{Work, contents, too_large, worked, worked_unless, answer_of, Unheld, outcome_under, Means, unheld, answered}
 use Rattle.dsda_cli.specs.Inside.{front_of}
 use Rattle.dsda_cli.specs.declared.command.Command.{Command}
 use Rattle.dsda_cli.specs.declared.command.Input.{Input}
+use Rattle.dsda_cli.specs.declared.fault.InputFault.{InputFault}
 use Rattle.dsda_cli.specs.declared.fault.InputFault.TheVariants as input_fault
 
 -- each text is the front of a file, one byte longer than the limit where the file is
@@ -89,20 +89,20 @@ alike_of (input ∷ inputs) [] texts fronts = absurd fronts
 alike_of (input ∷ inputs) (whole ∷ wholes) [] fronts = absurd fronts
 
 -- so they are judged alike
-same_answer : (command : Command) (inputs : List Input) (wholes texts : List (List ℕ)) → AreWhole inputs wholes texts ⊎ AreLarge inputs wholes texts → worked_unless command texts (too_large inputs texts) ≡ worked_unless command wholes (too_large inputs wholes)
-same_answer command inputs wholes texts (inl all) =
-    rw (all.none, all.none_whole) (ap (worked command) all.same)
-same_answer command inputs wholes texts (inr large) =
-    rw (large.first, large.first_whole) (ap (λ input. Err (input_fault.Large input.word)) large.same)
+same_answer : (command : Command) (inputs : List Input) (wholes texts : List (List ℕ)) (answer : Result Work InputFault) → AreWhole inputs wholes texts ⊎ AreLarge inputs wholes texts → worked_unless command texts (too_large inputs texts) answer → worked_unless command wholes (too_large inputs wholes) answer
+same_answer command inputs wholes texts answer (inl all) right =
+    rw all.none_whole (subst (λ texts. worked command texts answer) all.same (rw all.none at right))
+same_answer command inputs wholes texts answer (inr large) right =
+    rw large.first_whole (ap (λ (input : Input). Err (input_fault.Large input.word)) (sym large.same) ∙ rw large.first at right)
 
 -- what was taken means what the words and the files mean
-pub taken_meant : (told : Option Files) (words : List (List ℕ)) (command : Command) (texts : List (List ℕ)) → command_of words ≡ Some command → IfSome told (λ files. map (front_of files words) (inputs_of command) ≡ map Some texts) → IfSome told (λ files. outcome_under (word_at words (out_of command)) (answer_of command texts) ≡ outcome_of words files)
-taken_meant None words command texts is taken = tt
-taken_meant (Some files) words command texts is taken =
+pub taken_meant : (told : Option Files) (words : List (List ℕ)) (command : Command) (texts : List (List ℕ)) (answer : Result Work InputFault) → command_of words ≡ Some command → IfSome told (λ files. map (front_of files words) (inputs_of command) ≡ map Some texts) → answer_of command texts answer → IfSome told (λ files. Means words files (outcome_under (out_name words command) answer))
+taken_meant None words command texts answer is taken right = tt
+taken_meant (Some files) words command texts answer is taken right =
     let whole = wholes_of files words (inputs_of command) texts taken in
-    let same = same_answer command (inputs_of command) whole.wholes texts (alike_of (inputs_of command) whole.wholes texts whole.fronts) in
-    ap (outcome_under (word_at words (out_of command))) same ∙ sym (ap (outcome_for words files) is ∙ ap (outcome_from words command) whole.held)
+    answered command whole.wholes answer is whole.held (same_answer command (inputs_of command) whole.wholes texts answer (alike_of (inputs_of command) whole.wholes texts whole.fronts) right) refl
 
 -- an input that isn't held leaves the words without an outcome but that
-pub unheld_meant : (files : Files) (words : List (List ℕ)) (command : Command) → command_of words ≡ Some command → contents files words (inputs_of command) ≡ None → outcome_of words files ≡ Unheld
-unheld_meant files words command is none = ap (outcome_for words files) is ∙ ap (outcome_from words command) none
+pub unheld_meant : (told : Option Files) (words : List (List ℕ)) (command : Command) → command_of words ≡ Some command → IfSome told (λ files. contents files words (inputs_of command) ≡ None) → IfSome told (λ files. Means words files Unheld)
+unheld_meant None words command is none = tt
+unheld_meant (Some files) words command is none = unheld command is none refl

@@ -1,8 +1,8 @@
 -- The verdict on a demo's text is what the text is read as.
-use Rattle.std.proofs.Common.{◌≡◌, ◌≢◌, ◌≤◌, ◌<◌, ◌+◌, ℕ, zero, suc, Bool, true, false, cond, nat_lt, ◌==◌, List, [], ◌∷◌, ◌++◌, length, take, drop, refl, ap, sym, ◌∙◌, subst, arith, rules, tests, Option, Some, None, Result, Ok, Err, IsTrue, slice_index, slice_get, FitsSigned, if◌then◌else◌, ℤ, pos, negsuc, ◌≤ℤ◌, append_assoc, length-append, add-zero, zero-add, ◌⊎◌, inl, inr}
+use Rattle.std.proofs.Common.{◌≡◌, ◌≢◌, ◌≤◌, ◌<◌, ◌+◌, ℕ, zero, suc, Bool, true, false, nat_lt, ◌==◌, List, [], ◌∷◌, ◌++◌, length, take, drop, refl, ap, sym, ◌∙◌, subst, arith, rules, tests, Some, None, Result, Ok, Err, IsTrue, slice_index, slice_get, FitsSigned, if◌then◌else◌, ℤ, pos, negsuc, ◌≤ℤ◌, append_assoc, length-append, add-zero, zero-add, ◌⊎◌, inl, inr}
 use Rattle.std.proofs.Math.Seq.{take-append_seam, drop-append_seam}
 use Rattle.std.proofs.lemmas.List.{take-append-le, drop-append-le, take-append-drop, get_or-take, get_or_append_left, take_all, length-take}
-use Rattle.std.specs.Int.{cast_unsigned, cast_signed, w8}
+use Rattle.std.specs.Int.{cast_unsigned, w8}
 use Rattle.std.specs.List.{flat_map, AllByRecursion}
 use Rattle.std.proofs.lemmas.Bool.{ltb-true, ltb-false}
 use Rattle.std.proofs.lemmas.Int.{ints, to_z-of_z}
@@ -10,12 +10,13 @@ use Rattle.std.proofs.Props.{props}
 use lib.Signed.{le_z}
 use lib.Dec.{T}
 use Rattle.lmp_codec.specs.Header.{header_len, may_stand, IsHeader}
-use Rattle.lmp_codec.specs.Demo.{most_tics, end_byte, tic_bytes, written, FitsBytes, MayBeWritten, IsDemo, BreaksHeader, IsCut, IsLong, IsFault, IsVerdict}
+use Rattle.lmp_codec.specs.Demo.{most_tics, end_byte, tic_bytes, FitsBytes, MayBeWritten, IsDemo, BreaksHeader, IsCut, IsLong, IsFault, IsVerdict}
 use Rattle.lmp_codec.specs.declared.input.Tic.{Tic}
 use Rattle.lmp_codec.specs.declared.whole.Demo.{Demo}
 use Rattle.lmp_codec.specs.declared.fault.DemoFault.{DemoFault}
 use Rattle.lmp_codec.specs.declared.fault.DemoFault.TheVariants.{DemoVersion, DemoHead, DemoCut, DemoLong, Memory}
 use Rattle.dsda_cli.specs.Reading.{first_break, tic_with, tic_of, with_tic, tics_of, with_header, demo_behind, demo_of}
+use Rattle.dsda_cli.specs.Judging.{exactly}
 use Rattle.dsda_cli.specs.Meaning.{as_demo}
 use Rattle.dsda_cli.specs.Inside.{Gives, stop_of_demo}
 use Rattle.dsda_cli.specs.declared.product.Stop.{Stop}
@@ -268,14 +269,14 @@ demo_of-verdict text (Err (DemoCut len)) is = demo_of-cut text is.1 ∙ ap (λ n
 demo_of-verdict text (Err DemoLong) is = demo_of-long text is
 demo_of-verdict text (Err Memory) is = absurd is
 
-stops_as : (text : List ℕ) (fault : DemoFault) → IsFault text fault → Gives (λ demo. demo) (Err (stop_of_demo fault)) (as_demo (demo_of text))
-stops_as text (DemoVersion version) is = ap as_demo (demo_of-verdict text (Err (DemoVersion version)) is)
-stops_as text (DemoHead place) is = ap as_demo (demo_of-verdict text (Err (DemoHead place)) is)
-stops_as text (DemoCut len) is = ap as_demo (demo_of-verdict text (Err (DemoCut len)) is)
-stops_as text DemoLong is = ap as_demo (demo_of-verdict text (Err DemoLong) is)
+stops_as : (text : List ℕ) (fault : DemoFault) → IsFault text fault → Gives (λ demo. demo) (Err (stop_of_demo fault)) (exactly (as_demo (demo_of text)))
+stops_as text (DemoVersion version) is = record { right = ap as_demo (demo_of-verdict text (Err (DemoVersion version)) is) }
+stops_as text (DemoHead place) is = record { right = ap as_demo (demo_of-verdict text (Err (DemoHead place)) is) }
+stops_as text (DemoCut len) is = record { right = ap as_demo (demo_of-verdict text (Err (DemoCut len)) is) }
+stops_as text DemoLong is = record { right = ap as_demo (demo_of-verdict text (Err DemoLong) is) }
 stops_as text Memory is = absurd is
 
 -- a demo's fault, or want of memory, as an end of the work
-pub read_stops : (text : List ℕ) (fault : DemoFault) (stopped : Stop) → stopped ≡ stop_of_demo fault → (fault ≡ Memory) ⊎ IsFault text fault → Gives (λ demo. demo) (Err stopped) (as_demo (demo_of text))
-read_stops text fault stopped is (inl none) = rw (is, none) tt
+pub read_stops : (text : List ℕ) (fault : DemoFault) (stopped : Stop) → stopped ≡ stop_of_demo fault → (fault ≡ Memory) ⊎ IsFault text fault → Gives (λ demo. demo) (Err stopped) (exactly (as_demo (demo_of text)))
+read_stops text fault stopped is (inl none) = rw (is, none) (record { right = tt })
 read_stops text fault stopped is (inr found) = rw is (stops_as text fault found)

@@ -1,5 +1,5 @@
 -- Lemmas on the inputs that were taken.
-use Rattle.std.proofs.Common.{◌≡◌, ◌≤◌, ◌<◌, ◌+◌, ℕ, zero, suc, List, [], ◌∷◌, ◌++◌, length, map, take, refl, ap, sym, ◌∙◌, Option, Some, None, option_map, IfSome, Vec, Global, get_or, arith}
+use Rattle.std.proofs.Common.{◌≡◌, ◌≤◌, ◌<◌, ℕ, zero, suc, List, [], ◌∷◌, length, map, refl, ap, sym, ◌∙◌, Option, Some, None, option_map, IfSome, Vec, Global, get_or, arith}
 use Rattle.std.specs.FinMap as map
 use Rattle.doom_edge.specs.Devices.{Files, IsUnheld}
 use Rattle.dsda_cli.specs.Commands.{word_at}

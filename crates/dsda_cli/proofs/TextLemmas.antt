@@ -1,8 +1,11 @@
 -- Lemmas on the texts of the inputs.
-use Rattle.std.proofs.Common.{◌≡◌, ℕ, Bool, true, false, List, [], ◌∷◌, length, map, nat_lt, cond, refl, ap, sym, ◌∙◌, Option, Some, None, option_map, vec_len, Vec, Global, rules}
-use Rattle.std.specs.Prelude.{MatchOption, IsSomeAnd}
+use Rattle.std.proofs.Common.{◌≡◌, ℕ, Bool, true, false, List, [], ◌∷◌, length, map, nat_lt, cond, refl, ap, sym, Option, Some, None, option_map, vec_len, Vec, Global}
+use Rattle.std.specs.Prelude.{MatchOption, IsSomeAnd, slice_set, ◌≢◌, ◌≤◌}
+use Rattle.std.proofs.Common.{get_or, ◌∙◌}
+use Rattle.std.proofs.lemmas.List.{length-map, map-set, get_or-set_other, get_or_past}
+use Rattle.std.proofs.lemmas.Option.{unwrap_or-slice_get}
 use Rattle.std.specs.List.{zip, find}
-use Rattle.dsda_cli.specs.Meaning.{too_large}
+use Rattle.dsda_cli.specs.Meaning.{too_large, text_at}
 use Rattle.dsda_cli.specs.declared.command.Input.{Input}
 
 -- whether a text is above the limit of its input, by the length that the vector keeps
@@ -33,3 +36,18 @@ pub option_map-from_cases : {A B : Type 0} (f : A → B) (from : Option A) (to :
 option_map-from_cases f None to is = is
 option_map-from_cases f (Some value) None is = absurd is
 option_map-from_cases f (Some value) (Some mapped) is = ap Some is
+
+-- a text that is moved out leaves the others
+pub text_at-set_other : (texts : List (Vec ℕ Global)) (place : ℕ) (left : Vec ℕ Global) (other : ℕ) → other ≢ place → text_at (map (λ text. text.items) (slice_set texts place left)) other ≡ text_at (map (λ text. text.items) texts) other
+text_at-set_other texts place left other apart =
+    let before = map (λ (text : Vec ℕ Global). text.items) texts in
+    unwrap_or-slice_get _ other []
+    ∙ ap (λ (texts : List (List ℕ)). get_or texts other []) (map-set (λ (text : Vec ℕ Global). text.items) texts place left)
+    ∙ get_or-set_other before place other left.items [] apart
+    ∙ sym (unwrap_or-slice_get before other [])
+
+-- there is no text past the last input
+pub text_at_past : (texts : List (Vec ℕ Global)) (place : ℕ) → length texts ≤ place → text_at (map (λ text. text.items) texts) place ≡ []
+text_at_past texts place past =
+    let before = map (λ (text : Vec ℕ Global). text.items) texts in
+    unwrap_or-slice_get before place [] ∙ get_or_past before place [] (simp length-map past)

@@ -4,9 +4,8 @@ use Rattle.doom_edge.specs.Counts.{Rose}
 use Rattle.doom_edge.specs.Devices.{Files, bound, but_for, grown, GrewByPrefix}
 use Rattle.doom_edge.specs.declared.shelf.Shelf as shelf
 use Rattle.doom_edge.specs.declared.sink.Sink as sink
-use Rattle.dsda_cli.specs.Commands.{command_of}
 use Rattle.dsda_cli.specs.Refusal.{line_of}
-use Rattle.dsda_cli.specs.Meaning.{Outcome, Misused, Unheld, Refusal, Reported, outcome_of}
+use Rattle.dsda_cli.specs.Meaning.{Outcome, Misused, Unheld, Refusal, Reported, Means}
 use Rattle.dsda_cli.specs.declared.status.Status.{Status}
 use Rattle.dsda_cli.specs.declared.status.Status.TheVariants as status
 
@@ -70,15 +69,6 @@ pub record IsDelivered (put : Option (List ℕ × List ℕ)) (told : List ℕ) (
   pub no_put : put ≡ None → after.puts ≡ before.puts
   pub no_push : told ≡ [] → after.pushes ≡ before.pushes
 
--- A take failed, and nothing was put or pushed. Where only a name that isn't held can fail, one isn't.
-pub record IsReadFault (sure : Type 0) (outcome : Outcome) (before after : Seen) : Type 0 where
-  pub cause : Rose before.takes after.takes
-  pub missing : sure → outcome ≡ Unheld
-  pub files : after.files ≡ before.files
-  pub text : after.text ≡ before.text
-  pub no_put : after.puts ≡ before.puts
-  pub no_push : after.pushes ≡ before.pushes
-
 -- The put failed, and nothing was pushed. All other names are as before.
 pub record IsWriteFault (sure : Type 0) (name : List ℕ) (before after : Seen) : Type 0 where
   pub cause : Rose before.puts after.puts
@@ -110,7 +100,7 @@ pub record IsOutOfMemory (put : Option (List ℕ × List ℕ)) (before after : S
 -- What stands after a status, where this is what the words come to. In a sure run only a take of a name that isn't held
 -- fails.
 abbrev pub EndsAs : Type 0 → Outcome → Seen → Seen → Status → Type 0
-EndsAs sure outcome before after status.ReadFault = IsReadFault sure outcome before after
+EndsAs sure outcome before after status.ReadFault = ⊥
 EndsAs sure outcome before after status.WriteFault = IsPutFault sure (put_of outcome) before after
 EndsAs sure outcome before after status.NoteFault = IsNoteFault sure (put_of outcome) (told_of outcome) before after
 EndsAs sure outcome before after status.Memory = IsOutOfMemory (put_of outcome) before after
@@ -127,11 +117,38 @@ pub record IsLater (before after : Seen) : Type 0 where
   pub puts : before.puts ≤ after.puts
   pub pushes : before.pushes ≤ after.pushes
 
+-- A take failed. Where only a name that isn't held can fail, one isn't.
+pub record IsReadFault (sure : Type 0) (words : List (List ℕ)) (before after : Seen) : Type 0 where
+  pub cause : Rose before.takes after.takes
+  pub missing : sure → IfSome before.files (λ files. Means words files Unheld)
+
+-- why a run stops
+abbrev pub StopsBy : Type 0 → List (List ℕ) → Seen → Seen → Status → Type 0
+StopsBy sure words before after status.ReadFault = IsReadFault sure words before after
+StopsBy sure words before after status.Memory = Unit {0}
+StopsBy sure words before after other = ⊥
+
+-- nothing was put and nothing was pushed
+pub record IsUntouched (before after : Seen) : Type 0 where
+  pub files : after.files ≡ before.files
+  pub text : after.text ≡ before.text
+  pub no_put : after.puts ≡ before.puts
+  pub no_push : after.pushes ≡ before.pushes
+
+-- The run stops before it has found out what the words come to.
+pub record Stops (sure : Type 0) (words : List (List ℕ)) (before after : Seen) (ended : Status) : Type 0 where
+  pub cause : StopsBy sure words before after ended
+  pub untouched : IsUntouched before after
+
 -- The run ends as the words come to over what the shelf holds; over some files, where the shelf doesn't tell.
-pub record Ends (sure : Type 0) (words : List (List ℕ)) (before after : Seen) (ended : Status) : Type 0 where
+pub record Concludes (sure : Type 0) (words : List (List ℕ)) (before after : Seen) (ended : Status) : Type 0 where
   pub outcome : Outcome
-  pub meant : IfSome before.files (λ files. outcome ≡ outcome_of words files)
+  pub meant : IfSome before.files (λ files. Means words files outcome)
   pub ends : EndsAs sure outcome before after ended
+
+-- how a run may end
+pub record Ends (sure : Type 0) (words : List (List ℕ)) (before after : Seen) (ended : Status) : Type 0 where
+  pub ending : Stops sure words before after ended ⊎ Concludes sure words before after ended
   pub later : IsLater before after
 
 -- no count of faults rose
@@ -140,7 +157,12 @@ pub record IsQuiet (before after : Seen) : Type 0 where
   pub puts : Rose before.puts after.puts → ⊥
   pub pushes : Rose before.pushes after.pushes → ⊥
 
--- The status is that of what the words come to over these files, or there was no memory.
+-- the status is that of what the words come to over these files
+pub record IsMeant (words : List (List ℕ)) (files : Files) (ended : Status) : Type 0 where
+  pub outcome : Outcome
+  pub meant : Means words files outcome
+  pub as_meant : ended ≡ status_of outcome
+
+-- So it is, or there was no memory.
 abbrev pub Answers : List (List ℕ) → Option Files → Status → Type 0
-Answers words told ended =
-    IfSome told (λ files. (ended ≡ status_of (outcome_of words files)) ⊎ (ended ≡ status.Memory))
+Answers words told ended = IfSome told (λ files. IsMeant words files ended ⊎ (ended ≡ status.Memory))

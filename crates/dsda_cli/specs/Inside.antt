@@ -1,5 +1,5 @@
 -- What the private functions promise to each other.
-use Rattle.std.specs.Prelude.{◌≡◌, ◌≢◌, ◌≤◌, ◌+◌, ℕ, List, [], Option, Some, None, Result, Ok, Err, map, take, option_map}
+use Rattle.std.specs.Prelude.{◌≡◌, ◌≢◌, ◌+◌, ℕ, List, [], Option, Some, None, Result, Ok, Err, take, option_map}
 use Rattle.std.specs.FinMap as map
 use Rattle.doom_edge.specs.Counts.{Rose}
 use Rattle.doom_edge.specs.Devices.{Files, but_for, grown, GrewByPrefix}
@@ -9,6 +9,12 @@ use Rattle.doom_edge.specs.declared.shelf.PutFault.{PutFault}
 use Rattle.doom_edge.specs.declared.shelf.PutFault.TheVariants as put_fault
 use Rattle.doom_edge.specs.declared.sink.PushFault.{PushFault}
 use Rattle.doom_edge.specs.declared.sink.PushFault.TheVariants as push_fault
+use Rattle.wad_lumps.specs.declared.fault.WadFault.{WadFault}
+use Rattle.wad_lumps.specs.declared.fault.WadFault.TheVariants as wad_fault
+use Rattle.fixed_angle.specs.declared.fault.TabFault.{TabFault}
+use Rattle.fixed_angle.specs.declared.fault.TabFault.TheVariants as tables_fault
+use Rattle.map_geometry.specs.declared.fault.LevelFault.{LevelFault}
+use Rattle.map_geometry.specs.declared.fault.LevelFault.TheVariants as level_fault
 use Rattle.lmp_codec.specs.declared.fault.DemoFault.{DemoFault}
 use Rattle.lmp_codec.specs.declared.fault.DemoFault.TheVariants as demo_fault
 use Rattle.build_script.specs.declared.fault.ScriptFault.{ScriptFault}
@@ -17,7 +23,9 @@ use Rattle.build_edits.specs.declared.fault.EditFault.{EditFault}
 use Rattle.build_edits.specs.declared.fault.EditFault.TheVariants as edit_fault
 use Rattle.dsda_cli.specs.Commands.{word_at}
 use Rattle.dsda_cli.specs.Refusal.{line_of}
-use Rattle.dsda_cli.specs.Ending.{with_put}
+use Rattle.dsda_cli.specs.Judging.{Judgement}
+use Rattle.dsda_cli.specs.Meaning.{Work, outcome_under}
+use Rattle.dsda_cli.specs.Ending.{Seen, with_put, EndsAs, IsUntouched}
 use Rattle.dsda_cli.specs.declared.command.Input.{Input}
 use Rattle.dsda_cli.specs.declared.fault.InputFault.{InputFault}
 use Rattle.dsda_cli.specs.declared.fault.InputFault.TheVariants as input_fault
@@ -29,6 +37,21 @@ use Rattle.dsda_cli.specs.declared.status.Status.TheVariants as status
 -- what is asked for of an input: one byte more than its limit
 abbrev pub front_of : Files → List (List ℕ) → Input → Option (List ℕ)
 front_of files words input = option_map (take (input.limit + 1)) (map.get files (word_at words input.word))
+
+-- a WAD's fault, or its map's, as an end of the work
+abbrev pub stop_of_wad : WadFault → Stop
+stop_of_wad wad_fault.Memory = stop.Memory
+stop_of_wad fault = stop.Refused (input_fault.Wad fault)
+
+-- a table file's fault as an end of the work
+abbrev pub stop_of_tables : TabFault → Stop
+stop_of_tables tables_fault.Memory = stop.Memory
+stop_of_tables fault = stop.Refused (input_fault.Tables fault)
+
+-- a level's fault as an end of the work
+abbrev pub stop_of_level : LevelFault → Stop
+stop_of_level level_fault.Memory = stop.Memory
+stop_of_level fault = stop.Refused (input_fault.Level fault)
 
 -- a demo's fault as an end of the work
 abbrev pub stop_of_demo : DemoFault → Stop
@@ -45,11 +68,15 @@ abbrev pub stop_of_edit : ℕ → EditFault → Stop
 stop_of_edit line edit_fault.Memory = stop.Memory
 stop_of_edit line fault = stop.Refused (input_fault.Edit line fault)
 
--- what was returned, seen by `view`, is this answer, unless there was no memory
-abbrev pub Gives : {A B : Type 0} → (A → B) → Result A Stop → Result B InputFault → Type 0
-Gives view (Ok value) answer = answer ≡ Ok (view value)
-Gives view (Err (stop.Refused fault)) answer = answer ≡ Err fault
-Gives view (Err stop.Memory) answer = Unit {0}
+-- a right answer, where what was returned is seen by `view`, or nothing where there was no memory
+abbrev pub IsRight : {A B : Type 0} → (A → B) → Judgement B → Result A Stop → Type 0
+IsRight view judgement (Ok value) = judgement (Ok (view value))
+IsRight view judgement (Err (stop.Refused fault)) = judgement (Err fault)
+IsRight view judgement (Err stop.Memory) = Unit {0}
+
+-- what was returned is a right answer, unless there was no memory
+pub record Gives {A B : Type 0} (view : A → B) (given : Result A Stop) (judgement : Judgement B) : Type 0 where
+  pub right : IsRight view judgement given
 
 -- a status of a take that was not made
 abbrev pub status_of_take : TakeFault → Status
@@ -87,3 +114,10 @@ TellsRefusal sure fault text pushes after now status.NoteFault =
     GrewByPrefix (line_of fault) text after × Rose pushes now × (sure → ⊥)
 TellsRefusal sure fault text pushes after now status.Memory = after ≡ text
 TellsRefusal sure fault text pushes after now other = ⊥
+
+-- How a run ends from what its inputs were judged to: as the outcome under this name says, or with nothing put and nothing
+-- pushed, for want of memory.
+abbrev pub EndsBy : Type 0 → Option (List ℕ) → Result Work Stop → Seen → Seen → Status → Type 0
+EndsBy sure name (Ok work) before after ended = EndsAs sure (outcome_under name (Ok work)) before after ended
+EndsBy sure name (Err (stop.Refused fault)) before after ended = EndsAs sure (outcome_under name (Err fault)) before after ended
+EndsBy sure name (Err stop.Memory) before after ended = (ended ≡ status.Memory) × IsUntouched before after

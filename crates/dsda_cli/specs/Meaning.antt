@@ -1,6 +1,6 @@
--- What a command line means: a function of its words and of the files that they name. It knows nothing of the order in
+-- What a command line means: what its words come to over the files that they name. It knows nothing of the order in
 -- which files are taken, put and pushed.
-use Rattle.std.specs.Prelude.{ℕ, false, map, fold, Result, Ok, Err, Option, Some, None, List, [], ◌∷◌, length, nat_lt, option_map, find, slice_get, unwrap_or}
+use Rattle.std.specs.Prelude.{◌≡◌, ℕ, false, map, fold, Result, Ok, Err, Option, Some, None, List, [], ◌∷◌, length, nat_lt, option_map, find, slice_get, unwrap_or}
 use Rattle.std.specs.List.{zip}
 use Rattle.std.specs.FinMap as map
 use Rattle.doom_edge.specs.Devices.{Files}
@@ -8,6 +8,12 @@ use Rattle.lmp_codec.specs.Demo.{written}
 use Rattle.lmp_codec.specs.declared.input.Tic.{Tic}
 use Rattle.lmp_codec.specs.declared.whole.Demo.{Demo}
 use Rattle.lmp_codec.specs.declared.fault.DemoFault.{DemoFault}
+use Rattle.wad_lumps.specs.Directory.{file_conditions}
+use Rattle.wad_lumps.specs.Map.{map_conditions, IsMap}
+use Rattle.fixed_angle.specs.TableFile.{table_conditions}
+use Rattle.map_geometry.specs.Lists.{Lists}
+use Rattle.map_load.specs.Load.{level_conditions}
+use Rattle.map_load.specs.Spelled.{spelled}
 use Rattle.build_script.specs.Script.{script_of}
 use Rattle.build_script.specs.declared.fault.Kind.{Kind}
 use Rattle.build_script.specs.declared.commands.Entry.{Entry}
@@ -16,8 +22,10 @@ use Rattle.build_script.specs.declared.commands.Command.TheVariants as script
 use Rattle.build_edits.specs.Parts.{Parts, all_tics}
 use Rattle.build_edits.specs.Edits.{seek_outcome, put_outcome, insert_outcome, delete_outcome, cut_outcome, repeat_outcome}
 use Rattle.build_edits.specs.declared.fault.EditFault.{EditFault}
-use Rattle.dsda_cli.specs.Commands.{word_at, command_of, inputs_of, out_of}
+use Rattle.dsda_cli.specs.Commands.{word_at, command_of, inputs_of, out_name}
 use Rattle.dsda_cli.specs.Reading.{demo_of}
+use Rattle.dsda_cli.specs.LevelReport.{episode_of, map_of, level_lines}
+use Rattle.dsda_cli.specs.Judging.{Judgement, exactly, judged, such_that, ◌>>=◌, ◌>>◌}
 use Rattle.dsda_cli.specs.declared.command.Command.{Command}
 use Rattle.dsda_cli.specs.declared.command.Command.TheVariants as command
 use Rattle.dsda_cli.specs.declared.command.Input.{Input}
@@ -28,12 +36,6 @@ use Rattle.dsda_cli.specs.declared.fault.InputFault.TheVariants as input_fault
 pub record Work : Type 0 where
   pub report : List ℕ
   pub demo : Option (List ℕ)
-
-infixl 10 ◌>>=◌
--- the second step goes on from what the first one gives; the first fault ends them
-abbrev pub ◌>>=◌ : {A B : Type 0} → Result A InputFault → (A → Result B InputFault) → Result B InputFault
-(Ok value) >>= next = next value
-(Err fault) >>= next = Err fault
 
 -- a text as a demo; its fault is the input's
 abbrev pub as_demo : Result Demo DemoFault → Result Demo InputFault
@@ -61,44 +63,63 @@ at_line line (Err fault) = Err (input_fault.Edit line fault)
 
 -- one command more; none is carried out after the first that is refused
 abbrev pub next_edit : Result Parts InputFault → Entry → Result Parts InputFault
-next_edit so_far entry = so_far >>= λ parts. at_line entry.line (edited_by entry.command parts)
+next_edit (Ok parts) entry = at_line entry.line (edited_by entry.command parts)
+next_edit (Err fault) entry = Err fault
 
 -- what the commands make of a tape, one after the other
 abbrev pub edits_of : List Entry → Parts → Result Parts InputFault
 edits_of entries parts = fold next_edit (Ok parts) entries
 
 -- the tics that a script leaves of a demo's
-unfoldable pub scripted : List ℕ → List Tic → Result (List Tic) InputFault
+unfoldable pub scripted : List ℕ → List Tic → Judgement (List Tic)
 scripted script tics = do
-  entries ← as_script (script_of false script)
-  parts ← edits_of entries (record { before = []; after = tics })
-  Ok (all_tics parts)
+  entries ← exactly (as_script (script_of false script))
+  parts ← exactly (edits_of entries (record { before = []; after = tics }))
+  exactly (Ok (all_tics parts))
 
 -- `edit`: the demo with the tics that the script leaves, and nothing to report
-unfoldable pub edited : List ℕ → List ℕ → Result Work InputFault
+unfoldable pub edited : List ℕ → List ℕ → Judgement Work
 edited demo script = do
-  before ← as_demo (demo_of demo)
+  before ← exactly (as_demo (demo_of demo))
   tics ← scripted script before.tics
-  Ok (record { report = []; demo = Some (written before.header tics) })
+  exactly (Ok (record { report = []; demo = Some (written before.header tics) }))
+
+-- the level of the map that a demo's header names
+unfoldable pub level_in : List ℕ → List ℕ → Judgement Lists
+level_in wad header = do
+  judged (map_conditions wad (episode_of header) (map_of header)) input_fault.Wad
+  found ← such_that (IsMap wad (episode_of header) (map_of header))
+  judged (level_conditions wad found.spans.items found.other_form found.episode_form) input_fault.Level
+  exactly (Ok (spelled wad found.spans.items found.episode_form))
+
+-- `level`: what the level is made of. The tables serve its play, and are judged with it.
+unfoldable pub levelled : List ℕ → List ℕ → List ℕ → Judgement Work
+levelled wad tables demo = do
+  judged (file_conditions wad) input_fault.Wad
+  judged (table_conditions tables) input_fault.Tables
+  played ← exactly (as_demo (demo_of demo))
+  level ← level_in wad played.header
+  exactly (Ok (record { report = level_lines played.header level; demo = None }))
 
 -- the text of the input at a place
 abbrev pub text_at : List (List ℕ) → ℕ → List ℕ
 text_at texts place = unwrap_or (slice_get texts place) []
 
 -- what each command makes of the texts of its inputs
-abbrev pub worked : Command → List (List ℕ) → Result Work InputFault
+abbrev pub worked : Command → List (List ℕ) → Judgement Work
 worked command.Edit texts = edited (text_at texts 0) (text_at texts 1)
+worked command.Level texts = levelled (text_at texts 0) (text_at texts 1) (text_at texts 2)
 
 -- the first input whose text is above its limit
 abbrev pub too_large : List Input → List (List ℕ) → Option (Input × List ℕ)
 too_large inputs texts = find (λ pair. nat_lt pair.0.limit (length pair.1)) (zip inputs texts)
 
-abbrev pub worked_unless : Command → List (List ℕ) → Option (Input × List ℕ) → Result Work InputFault
-worked_unless command texts (Some pair) = Err (input_fault.Large pair.0.word)
+abbrev pub worked_unless : Command → List (List ℕ) → Option (Input × List ℕ) → Judgement Work
+worked_unless command texts (Some pair) = exactly (Err (input_fault.Large pair.0.word))
 worked_unless command texts None = worked command texts
 
 -- the first text above its limit is refused before any text is read
-abbrev pub answer_of : Command → List (List ℕ) → Result Work InputFault
+abbrev pub answer_of : Command → List (List ℕ) → Judgement Work
 answer_of command texts = worked_unless command texts (too_large (inputs_of command) texts)
 
 -- the values, where each is there
@@ -122,19 +143,21 @@ pub data Outcome : Type 0 where
   -- the report, and the name and the bytes of the file that is put, if one is
   Reported : List ℕ → Option (List ℕ × List ℕ) → Outcome
 
+-- the demo under its name, where there are both
+abbrev pub put_under : Option (List ℕ) → Option (List ℕ) → Option (List ℕ × List ℕ)
+put_under (Some name) (Some demo) = Some (name, demo)
+put_under name demo = None
+
 -- the work, with its demo under this name, or the refusal
-abbrev pub outcome_under : List ℕ → Result Work InputFault → Outcome
+abbrev pub outcome_under : Option (List ℕ) → Result Work InputFault → Outcome
 outcome_under name (Err fault) = Refusal fault
-outcome_under name (Ok work) = Reported work.report (option_map (λ bytes. (name, bytes)) work.demo)
+outcome_under name (Ok work) = Reported work.report (put_under name work.demo)
 
-abbrev pub outcome_from : List (List ℕ) → Command → Option (List (List ℕ)) → Outcome
-outcome_from words command None = Unheld
-outcome_from words command (Some texts) = outcome_under (word_at words (out_of command)) (answer_of command texts)
-
-abbrev pub outcome_for : List (List ℕ) → Files → Option Command → Outcome
-outcome_for words files None = Misused
-outcome_for words files (Some command) = outcome_from words command (contents files words (inputs_of command))
-
--- what the words come to over these files
-abbrev pub outcome_of : List (List ℕ) → Files → Outcome
-outcome_of words files = outcome_for words files (command_of words)
+-- What the words come to over these files.
+pub data Means (words : List (List ℕ)) (files : Files) (outcome : Outcome) : Type 0 where
+  -- the words ask for nothing
+  misused : command_of words ≡ None → outcome ≡ Misused → Means words files outcome
+  -- an input of the command that they ask for isn't held
+  unheld : (command : Command) → command_of words ≡ Some command → contents files words (inputs_of command) ≡ None → outcome ≡ Unheld → Means words files outcome
+  -- all are, and their texts have a right answer
+  answered : (command : Command) (texts : List (List ℕ)) (answer : Result Work InputFault) → command_of words ≡ Some command → contents files words (inputs_of command) ≡ Some texts → answer_of command texts answer → outcome ≡ outcome_under (out_name words command) answer → Means words files outcome

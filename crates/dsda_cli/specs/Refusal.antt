@@ -1,6 +1,15 @@
 -- The printed lines of refusals. Numbers are decimal.
 use Rattle.std.specs.Prelude.{ℕ, List, [], ◌∷◌, ◌++◌, codes}
 use Rattle.std.specs.Fmt.{decimal}
+use Rattle.wad_lumps.specs.declared.fault.WadFault.{WadFault}
+use Rattle.wad_lumps.specs.declared.fault.WadFault.TheVariants.{WadHead, WadDir, NoMap, LumpRange}
+use Rattle.wad_lumps.specs.declared.fault.WadFault.TheVariants as wad_fault
+use Rattle.fixed_angle.specs.declared.fault.TabFault.{TabFault}
+use Rattle.fixed_angle.specs.declared.fault.TabFault.TheVariants.{TabHead, TabLength, TabActor}
+use Rattle.fixed_angle.specs.declared.fault.TabFault.TheVariants as tables_fault
+use Rattle.map_geometry.specs.declared.fault.LevelFault.{LevelFault}
+use Rattle.map_geometry.specs.declared.fault.LevelFault.TheVariants.{MapForm, NodesKind, LevelRef, NodeLoop, BlockShape}
+use Rattle.map_geometry.specs.declared.fault.LevelFault.TheVariants as level_fault
 use Rattle.lmp_codec.specs.declared.fault.DemoFault.{DemoFault}
 use Rattle.lmp_codec.specs.declared.fault.DemoFault.TheVariants.{DemoVersion, DemoHead, DemoCut, DemoLong}
 use Rattle.lmp_codec.specs.declared.fault.DemoFault.TheVariants as demo_fault
@@ -10,7 +19,31 @@ use Rattle.build_edits.specs.declared.fault.EditFault.{EditFault}
 use Rattle.build_edits.specs.declared.fault.EditFault.TheVariants.{Place, Before, TooLong}
 use Rattle.build_edits.specs.declared.fault.EditFault.TheVariants as edit_fault
 use Rattle.dsda_cli.specs.declared.fault.InputFault.{InputFault}
-use Rattle.dsda_cli.specs.declared.fault.InputFault.TheVariants.{Large, Demo, Script, Edit}
+use Rattle.dsda_cli.specs.declared.fault.InputFault.TheVariants.{Large, Wad, Tables, Demo, Script, Level, Edit}
+
+-- what is said of a WAD and of a map in it (of want of memory nothing ever is)
+abbrev pub wad_text : WadFault → List ℕ
+wad_text WadHead = codes "wad head"
+wad_text WadDir = codes "wad directory"
+wad_text NoMap = codes "no map"
+wad_text (LumpRange entry) = codes "lump " ++ decimal entry
+wad_text wad_fault.Memory = []
+
+-- what is said of a table file (of want of memory nothing ever is)
+abbrev pub tables_text : TabFault → List ℕ
+tables_text TabHead = codes "tables head"
+tables_text TabLength = codes "tables length"
+tables_text (TabActor place) = codes "tables kind " ++ decimal place
+tables_text tables_fault.Memory = []
+
+-- what is said of a level (of want of memory nothing ever is)
+abbrev pub level_text : LevelFault → List ℕ
+level_text MapForm = codes "map form"
+level_text NodesKind = codes "nodes kind"
+level_text (LevelRef lump entry) = codes "level lump " ++ decimal lump ++ (codes " entry " ++ decimal entry)
+level_text NodeLoop = codes "node loop"
+level_text BlockShape = codes "block shape"
+level_text level_fault.Memory = []
 
 -- what is said of a demo (of want of memory nothing ever is)
 abbrev pub demo_text : DemoFault → List ℕ
@@ -38,8 +71,11 @@ edit_text edit_fault.Memory = []
 -- what is said of a fault
 abbrev pub text_of : InputFault → List ℕ
 text_of (Large word) = codes "word " ++ decimal word ++ codes " too large"
+text_of (Wad fault) = wad_text fault
+text_of (Tables fault) = tables_text fault
 text_of (Demo fault) = demo_text fault
 text_of (Script line kind) = codes "line " ++ decimal line ++ codes ": " ++ kind_text kind
+text_of (Level fault) = level_text fault
 text_of (Edit line fault) = codes "line " ++ decimal line ++ codes ": " ++ edit_text fault
 
 -- the line that stands in place of the report

@@ -1,19 +1,24 @@
 // What is put and pushed at the end of a run.
 ghost use Rattle.std.specs.Prelude.{◌≡◌, ◌≤◌, option_map};
+ghost use Rattle.dsda_cli.specs.Meaning.{put_under};
 ghost use Rattle.dsda_cli.specs.Inside.{Puts, Pushes, status_of_take, status_of_put, status_of_push};
 
 use crate::status::Status;
 use doom_edge::{PushFault, PutFault, Shelf, Sink, TakeFault};
 
-/// Puts the bytes under the name, if there are any.
-pub fn put_demo<S: Shelf>(shelf: &mut S, name: &str, demo: &Option<Vec<u8>>) -> Result<(), PutFault>
-    ensures puts { Puts (S.sure shelf.old) (option_map (λ bytes. (name.now, bytes.items)) demo.now) (S.holds shelf.old) (S.put_faults shelf.old) (S.holds shelf.new) (S.put_faults shelf.new) result }
+/// Puts the demo under the name, if there are both.
+pub fn put_demo<S: Shelf>(
+    shelf: &mut S,
+    name: Option<&str>,
+    demo: &Option<Vec<u8>>,
+) -> Result<(), PutFault>
+    ensures puts { Puts (S.sure shelf.old) (put_under (option_map (λ name. name.now) name.entry) (option_map (λ bytes. bytes.items) demo.now)) (S.holds shelf.old) (S.put_faults shelf.old) (S.holds shelf.new) (S.put_faults shelf.new) result }
     ensures later { S.put_faults shelf.old ≤ S.put_faults shelf.new }
     ensures takes { S.take_faults shelf.new ≡ S.take_faults shelf.old }
 {
-    match demo {
-        Some(bytes) => shelf.put(name, bytes),
-        None => Ok(()),
+    match (name, demo) {
+        (Some(name), Some(bytes)) => shelf.put(name, bytes),
+        _ => Ok(()),
     }
 }
 

@@ -1,9 +1,11 @@
 // The commands of a script, carried out on the tics of a demo.
-ghost use Rattle.std.specs.Prelude.{◌≡◌, ◌≤◌, length};
+ghost use Rattle.std.specs.Prelude.{◌≡◌, ◌≤◌, false, length};
 ghost use Rattle.lmp_codec.specs.Demo.{most_tics};
+ghost use Rattle.build_script.specs.Script.{script_of};
 ghost use Rattle.build_edits.specs.Parts.{all_tics};
 ghost use Rattle.build_edits.specs.Edits.{MayEdit};
-ghost use Rattle.dsda_cli.specs.Meaning.{scripted, edits_of, edited_by};
+ghost use Rattle.dsda_cli.specs.Judging.{exactly};
+ghost use Rattle.dsda_cli.specs.Meaning.{as_script, scripted, edits_of, edited_by};
 ghost use Rattle.dsda_cli.specs.Inside.{Gives, stop_of_edit};
 
 use crate::fault::{InputFault, Refused};
@@ -19,13 +21,20 @@ pub fn scripted(alloc: Global, script: &[u8], tics: Tics) -> Result<Tape, Stop>
     requires { length tics ≤ most_tics }
     ensures { Gives all_tics result (scripted script.now tics) }
 {
-    let script = read_script(alloc, script, false)?;
-    edit_all(&script, Tape::new(tics.into_list()))
+    let commands = read_commands(alloc, script)?;
+    edit_all(&commands, Tape::new(tics.into_list()))
+}
+
+/// The commands of the script.
+fn read_commands(alloc: Global, script: &[u8]) -> Result<Script, Stop>
+    ensures { Gives (λ entries. entries) result (exactly (as_script (script_of false script.now))) }
+{
+    Ok(read_script(alloc, script, false)?)
 }
 
 /// Carries the commands out, one after the other. The first that is refused ends them.
 fn edit_all(script: &Script, mut tape: Tape) -> Result<Tape, Stop>
-    ensures { Gives (λ parts. parts) result (edits_of script.now tape) }
+    ensures { Gives (λ parts. parts) result (exactly (edits_of script.now tape)) }
 {
     for place in 0..script.len() {
         match edit(script.command(place), &mut tape) {

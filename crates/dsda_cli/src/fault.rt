@@ -2,9 +2,12 @@ ghost use Rattle.std.specs.Prelude.{◌≡◌};
 
 use build_edits::EditFault;
 use build_script::Kind;
+use fixed_angle::TabFault;
 use lmp_codec::DemoFault;
+use map_load::LevelFault;
 use std::marker::Model;
 use thiserror::Error;
+use wad_lumps::WadFault;
 
 /// An answer of a reader that may also be want of memory.
 pub trait MayLackMemory {
@@ -21,6 +24,27 @@ impl MayLackMemory for DemoFault {
 impl MayLackMemory for EditFault {
     ghost use Rattle.std.specs.Prelude.{◌≡◌};
     ghost use Rattle.build_edits.specs.declared.fault.EditFault.TheVariants as variants;
+
+    ghost is_memory = { λ fault. fault ≡ variants.Memory };
+}
+
+impl MayLackMemory for WadFault {
+    ghost use Rattle.std.specs.Prelude.{◌≡◌};
+    ghost use Rattle.wad_lumps.specs.declared.fault.WadFault.TheVariants as variants;
+
+    ghost is_memory = { λ fault. fault ≡ variants.Memory };
+}
+
+impl MayLackMemory for TabFault {
+    ghost use Rattle.std.specs.Prelude.{◌≡◌};
+    ghost use Rattle.fixed_angle.specs.declared.fault.TabFault.TheVariants as variants;
+
+    ghost is_memory = { λ fault. fault ≡ variants.Memory };
+}
+
+impl MayLackMemory for LevelFault {
+    ghost use Rattle.std.specs.Prelude.{◌≡◌};
+    ghost use Rattle.map_geometry.specs.declared.fault.LevelFault.TheVariants as variants;
 
     ghost is_memory = { λ fault. fault ≡ variants.Memory };
 }
@@ -62,10 +86,16 @@ impl<F: MayLackMemory> Refused<F> {
 pub enum InputFault {
     #[error("a file is too large")]
     Large(u32),
+    #[error("the WAD or its map is faulty")]
+    Wad(Refused<WadFault>),
+    #[error("the table file is faulty")]
+    Tables(Refused<TabFault>),
     #[error("the demo is faulty")]
     Demo(Refused<DemoFault>),
     #[error("the script is faulty")]
     Script(u32, Kind),
+    #[error("the level is faulty")]
+    Level(Refused<LevelFault>),
     #[error("an edit is refused")]
     Edit(u32, Refused<EditFault>),
 }

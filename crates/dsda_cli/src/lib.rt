@@ -1,15 +1,18 @@
 //! The program's commands, each over a shelf of files and a sink for the report.
 //!
 //! `edit DEMO SCRIPT OUT` reads a demo and a script, carries the script's commands out on the demo's tics, and puts the
-//! demo that they leave. What a command line comes to is a function of its words and of the files that they name; `run`
-//! ends as it says, or by a device's fault or want of memory.
+//! demo that they leave. `level WAD TABLES DEMO` reads the level that a demo plays, and reports its name and how much
+//! there is of each kind. A command line comes to one outcome over the files that it names; `run` ends as that, or by a
+//! device's fault or want of memory.
 #![tactic(auto)]
 
 mod command;
 mod deliver;
 mod edits;
 mod fault;
+mod inputs;
 pub mod laws;
+mod level;
 mod product;
 mod program;
 mod status;

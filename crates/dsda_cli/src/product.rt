@@ -4,8 +4,11 @@ ghost use Rattle.std.specs.Prelude.{◌≡◌};
 use crate::fault::{InputFault, Refused};
 use build_script::ScriptFault;
 use doom_edge::Memory;
+use fixed_angle::TabFault;
 use lmp_codec::DemoFault;
+use map_load::LevelFault;
 use std::marker::Model;
+use wad_lumps::WadFault;
 
 /// What a command that is carried out gives: its report, and the demo that it puts, if it puts one.
 #[derive(Debug, Drop)]
@@ -32,6 +35,34 @@ pub enum Stop {
     Memory,
 }
 
+impl From<WadFault> for Stop {
+    ghost use Rattle.std.specs.Prelude.{◌≡◌};
+    ghost use Rattle.dsda_cli.specs.Inside.{stop_of_wad};
+
+    ghost from_gives = { λ fault stop. stop ≡ stop_of_wad fault };
+
+    fn from(fault: WadFault) -> Self {
+        match fault {
+            WadFault::Memory => Stop::Memory,
+            refused => Stop::Refused(InputFault::Wad(Refused::new(refused))),
+        }
+    }
+}
+
+impl From<TabFault> for Stop {
+    ghost use Rattle.std.specs.Prelude.{◌≡◌};
+    ghost use Rattle.dsda_cli.specs.Inside.{stop_of_tables};
+
+    ghost from_gives = { λ fault stop. stop ≡ stop_of_tables fault };
+
+    fn from(fault: TabFault) -> Self {
+        match fault {
+            TabFault::Memory => Stop::Memory,
+            refused => Stop::Refused(InputFault::Tables(Refused::new(refused))),
+        }
+    }
+}
+
 impl From<DemoFault> for Stop {
     ghost use Rattle.std.specs.Prelude.{◌≡◌};
     ghost use Rattle.dsda_cli.specs.Inside.{stop_of_demo};
@@ -56,6 +87,20 @@ impl From<ScriptFault> for Stop {
         match fault {
             ScriptFault::Line(line, kind) => Stop::Refused(InputFault::Script(line, kind)),
             ScriptFault::Memory => Stop::Memory,
+        }
+    }
+}
+
+impl From<LevelFault> for Stop {
+    ghost use Rattle.std.specs.Prelude.{◌≡◌};
+    ghost use Rattle.dsda_cli.specs.Inside.{stop_of_level};
+
+    ghost from_gives = { λ fault stop. stop ≡ stop_of_level fault };
+
+    fn from(fault: LevelFault) -> Self {
+        match fault {
+            LevelFault::Memory => Stop::Memory,
+            refused => Stop::Refused(InputFault::Level(Refused::new(refused))),
         }
     }
 }

@@ -1,13 +1,12 @@
 // The top call: a command line, carried out over a shelf and a sink.
-ghost use Rattle.std.specs.Prelude.{◌≡◌, ◌≤◌, ◌↔◌, Some, None, option_map, IfOk, IfSome, Result};
+ghost use Rattle.std.specs.Prelude.{◌≡◌, ◌≤◌, ◌↔◌, Some, None, option_map, IfOk, IfSome};
 ghost use Rattle.dsda_cli.specs.Refusal.{line_of};
-ghost use Rattle.dsda_cli.specs.Commands.{command_of, word_at, out_of};
-ghost use Rattle.dsda_cli.specs.Meaning.{Work, Reported, outcome_under};
+ghost use Rattle.dsda_cli.specs.Commands.{command_of};
+ghost use Rattle.dsda_cli.specs.Meaning.{Reported, put_under};
 ghost use Rattle.dsda_cli.specs.Ending.{seen, EndsAs, Ends, IsLater, IsQuiet, Answers};
-ghost use Rattle.dsda_cli.specs.Inside.{Gives, TellsRefusal};
-ghost use Rattle.dsda_cli.specs.declared.fault.InputFault.{InputFault};
+ghost use Rattle.dsda_cli.specs.Inside.{EndsBy, TellsRefusal};
 
-use crate::command::{Command, command_of, inputs_of, out_of};
+use crate::command::{Command, command_of, inputs_of, out_name};
 use crate::deliver::{push_text, put_demo, status_of_push, status_of_put, status_of_take};
 use crate::fault::InputFault;
 use crate::product::{Product, Stop};
@@ -72,8 +71,8 @@ fn carry_out<S: Shelf, N: Sink>(
     match taken {
         Ok(texts) => conclude(
             alloc,
-            judge(alloc, command, &texts),
-            words.word(out_of(command)),
+            judge(alloc, command, texts),
+            out_name(words, command),
             shelf,
             note,
         ),
@@ -85,12 +84,11 @@ fn carry_out<S: Shelf, N: Sink>(
 fn conclude<S: Shelf, N: Sink>(
     alloc: Global,
     judged: Result<Product, Stop>,
-    name: &str,
+    name: Option<&str>,
     shelf: &mut S,
     note: &mut N,
 ) -> Status
-    ensures ends { (answer : Result Work InputFault) → Gives (λ work. work) judged answer
-        → EndsAs (S.sure shelf.old × N.sure note.old) (outcome_under name.now answer)
+    ensures ends { EndsBy (S.sure shelf.old × N.sure note.old) (option_map (λ name. name.now) name.entry) judged
         (seen S.Shelf N.Sink shelf.old note.old) (seen S.Shelf N.Sink shelf.new note.new) result }
     ensures later { IsLater (seen S.Shelf N.Sink shelf.old note.old) (seen S.Shelf N.Sink shelf.new note.new) }
     ensures used { result ≡ Status.Usage → ⊥ }
@@ -105,9 +103,14 @@ fn conclude<S: Shelf, N: Sink>(
 }
 
 /// Puts the demo under the name, if there is one, and then pushes the report.
-fn deliver<S: Shelf, N: Sink>(product: &Product, name: &str, shelf: &mut S, note: &mut N) -> Status
+fn deliver<S: Shelf, N: Sink>(
+    product: &Product,
+    name: Option<&str>,
+    shelf: &mut S,
+    note: &mut N,
+) -> Status
     ensures ends { EndsAs (S.sure shelf.old × N.sure note.old)
-        (Reported product.now.report (option_map (λ bytes. (name.now, bytes)) product.now.demo))
+        (Reported product.now.report (put_under (option_map (λ name. name.now) name.entry) product.now.demo))
         (seen S.Shelf N.Sink shelf.old note.old) (seen S.Shelf N.Sink shelf.new note.new) result }
     ensures later { IsLater (seen S.Shelf N.Sink shelf.old note.old) (seen S.Shelf N.Sink shelf.new note.new) }
 {

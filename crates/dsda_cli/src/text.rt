@@ -1,12 +1,15 @@
 ghost use Rattle.std.specs.Prelude.{IfOk, ◌≡◌, string_bytes};
-ghost use Rattle.dsda_cli.specs.Refusal.{text_of, line_of, demo_text, kind_text, edit_text};
+ghost use Rattle.dsda_cli.specs.Refusal.{text_of, line_of, wad_text, tables_text, level_text, demo_text, kind_text, edit_text};
 
 use crate::fault::{InputFault, Refused};
 use build_edits::EditFault;
 use build_script::Kind;
 use doom_edge::Memory;
+use fixed_angle::TabFault;
 use lmp_codec::DemoFault;
+use map_load::LevelFault;
 use std::alloc::{AllocError, Global};
+use wad_lumps::WadFault;
 
 fn memory(_fault: AllocError) -> Memory {
     Memory
@@ -18,11 +21,14 @@ pub fn refusal_text(alloc: Global, fault: &InputFault) -> Result<Vec<u8>, Memory
 {
     let text = match fault {
         InputFault::Large(word) => format!(in alloc; "word {word} too large"),
+        InputFault::Wad(refused) => wad_text(alloc, refused),
+        InputFault::Tables(refused) => tables_text(alloc, refused),
         InputFault::Demo(refused) => demo_text(alloc, refused),
         InputFault::Script(line, kind) => {
             let kind = kind_text(*kind);
             format!(in alloc; "line {line}: {kind}")
         }
+        InputFault::Level(refused) => level_text(alloc, refused),
         InputFault::Edit(line, refused) => {
             let text = edit_text(alloc, refused)?;
             format!(in alloc; "line {line}: {text}")
@@ -40,6 +46,44 @@ pub fn refusal_line(alloc: Global, fault: &InputFault) -> Result<Vec<u8>, Memory
     line.extend_from_slice(&refusal_text(alloc, fault)?)?;
     line.push(b'\n')?;
     Ok(line)
+}
+
+fn wad_text(alloc: Global, refused: &Refused<WadFault>) -> Result<String, AllocError>
+    ensures { IfOk result (λ text. string_bytes text ≡ wad_text refused.now) }
+{
+    match refused.fault() {
+        WadFault::WadHead => String::from_str(alloc, "wad head"),
+        WadFault::WadDir => String::from_str(alloc, "wad directory"),
+        WadFault::NoMap => String::from_str(alloc, "no map"),
+        WadFault::LumpRange(entry) => format!(in alloc; "lump {entry}"),
+        WadFault::Memory => unreachable!("want of memory is no refusal"),
+    }
+}
+
+fn tables_text(alloc: Global, refused: &Refused<TabFault>) -> Result<String, AllocError>
+    ensures { IfOk result (λ text. string_bytes text ≡ tables_text refused.now) }
+{
+    match refused.fault() {
+        TabFault::TabHead => String::from_str(alloc, "tables head"),
+        TabFault::TabLength => String::from_str(alloc, "tables length"),
+        TabFault::TabActor(place) => format!(in alloc; "tables kind {place}"),
+        TabFault::Memory => unreachable!("want of memory is no refusal"),
+    }
+}
+
+fn level_text(alloc: Global, refused: &Refused<LevelFault>) -> Result<String, AllocError>
+    ensures { IfOk result (λ text. string_bytes text ≡ level_text refused.now) }
+{
+    match refused.fault() {
+        LevelFault::MapForm => String::from_str(alloc, "map form"),
+        LevelFault::NodesKind => String::from_str(alloc, "nodes kind"),
+        LevelFault::LevelRef(lump, entry) => {
+            format!(in alloc; "level lump {lump} entry {entry}")
+        }
+        LevelFault::NodeLoop => String::from_str(alloc, "node loop"),
+        LevelFault::BlockShape => String::from_str(alloc, "block shape"),
+        LevelFault::Memory => unreachable!("want of memory is no refusal"),
+    }
 }
 
 fn demo_text(alloc: Global, refused: &Refused<DemoFault>) -> Result<String, AllocError>

@@ -1,22 +1,23 @@
 // What a command makes of the texts of its inputs.
-ghost use Rattle.std.specs.Prelude.{◌≡◌, ◌≤◌, map, option_map, length, IfOk};
-ghost use Rattle.lmp_codec.specs.Demo.{most_tics};
-ghost use Rattle.dsda_cli.specs.Reading.{demo_of};
-ghost use Rattle.dsda_cli.specs.Meaning.{as_demo, edited, worked, answer_of, too_large, text_at};
+ghost use Rattle.std.specs.Prelude.{◌≡◌, ◌≢◌, ℕ, map, option_map};
+ghost use Rattle.dsda_cli.specs.Meaning.{edited, worked, answer_of, too_large, text_at};
 ghost use Rattle.dsda_cli.specs.Inside.{Gives};
 
 use crate::command::{Command, Input, inputs_of};
 use crate::edits::scripted;
 use crate::fault::InputFault;
+use crate::inputs;
+use crate::level::level;
 use crate::product::{Product, Stop};
-use lmp_codec::{Demo, read_demo, write_demo};
+use lmp_codec::{Demo, write_demo};
 use std::alloc::Global;
+use std::mem;
 
 /// What the command makes of these texts, or their first fault. A text above its limit is refused before any is read.
-pub fn judge(alloc: Global, command: Command, texts: &[Vec<u8>]) -> Result<Product, Stop>
-    ensures { Gives (λ work. work) result (answer_of command (map (λ text. text.items) texts.now)) }
+pub fn judge(alloc: Global, command: Command, texts: Vec<Vec<u8>>) -> Result<Product, Stop>
+    ensures { Gives (λ work. work) result (answer_of command (map (λ text. text.items) texts.items)) }
 {
-    if let Some(word) = too_large(inputs_of(command), texts) {
+    if let Some(word) = too_large(inputs_of(command), &texts) {
         return Err(Stop::Refused(InputFault::Large(word)));
     }
     work(alloc, command, texts)
@@ -43,12 +44,28 @@ fn text_at(texts: &[Vec<u8>], place: usize) -> &[u8]
     }
 }
 
+/// Moves the text of the input at a place out, and leaves no bytes there.
+fn take_text(alloc: Global, texts: &mut Vec<Vec<u8>>, place: usize) -> Vec<u8>
+    ensures text { result.items ≡ text_at (map (λ text. text.items) texts.old.items) place }
+    ensures others { (other : ℕ) → other ≢ place → text_at (map (λ text. text.items) texts.new.items) other
+        ≡ text_at (map (λ text. text.items) texts.old.items) other }
+{
+    match texts.get_mut(place) {
+        Some(text) => mem::replace(text, Vec::new(alloc)),
+        None => Vec::new(alloc),
+    }
+}
+
 /// What the command makes of texts within their limits.
-fn work(alloc: Global, command: Command, texts: &[Vec<u8>]) -> Result<Product, Stop>
-    ensures { Gives (λ work. work) result (worked command (map (λ text. text.items) texts.now)) }
+fn work(alloc: Global, command: Command, mut texts: Vec<Vec<u8>>) -> Result<Product, Stop>
+    ensures { Gives (λ work. work) result (worked command (map (λ text. text.items) texts.items)) }
 {
     match command {
-        Command::Edit => edit(alloc, text_at(texts, 0), text_at(texts, 1)),
+        Command::Edit => edit(alloc, text_at(&texts, 0), text_at(&texts, 1)),
+        Command::Level => {
+            let wad = take_text(alloc, &mut texts, 0);
+            level(alloc, wad, text_at(&texts, 1), text_at(&texts, 2))
+        }
     }
 }
 
@@ -57,19 +74,11 @@ fn work(alloc: Global, command: Command, texts: &[Vec<u8>]) -> Result<Product, S
 fn edit(alloc: Global, demo: &[u8], script: &[u8]) -> Result<Product, Stop>
     ensures { Gives (λ work. work) result (edited demo.now script.now) }
 {
-    let Demo { header, tics } = read(alloc, demo)?;
+    let Demo { header, tics } = inputs::demo(alloc, demo)?;
     let tape = scripted(alloc, script, tics)?;
     let bytes = write_demo(alloc, &header, tape.tics())?;
     Ok(Product {
         report: Vec::new(alloc),
         demo: Some(bytes),
     })
-}
-
-/// The demo that the text is.
-fn read(alloc: Global, text: &[u8]) -> Result<Demo, Stop>
-    ensures read { Gives (λ demo. demo) result (as_demo (demo_of text.now)) }
-    ensures within { IfOk result (λ demo. length demo.tics ≤ most_tics) }
-{
-    Ok(read_demo(alloc, text)?)
 }

@@ -1,4 +1,4 @@
-use Rattle.std.proofs.Common.{◌≡◌, ◌<◌, ap, sym, ◌∙◌, subst, length}
+use Rattle.std.proofs.Common.{◌<◌, ap, ◌∙◌, subst, length}
 use Rattle.build_script.specs.declared.commands.Entry.{Entry}
 use Rattle.build_script.specs.declared.commands.Command.TheVariants.{Delete}
 use Rattle.dsda_cli.specs.Inside.{stop_of_edit}

@@ -1,10 +1,8 @@
-use Rattle.std.proofs.Common.{◌≡◌, ◌≤◌, map, refl, sym, ap, ◌∙◌, subst, arith, rules, Err}
-use Rattle.dsda_cli.specs.Commands.{word_at, out_of, inputs_of}
-use Rattle.dsda_cli.specs.Meaning.{answer_of, outcome_under, contents}
+use Rattle.std.proofs.Common.{inl, map, refl, ap, ◌∙◌, arith, Err}
+use Rattle.dsda_cli.specs.Commands.{inputs_of}
 use Rattle.dsda_cli.specs.Ending.{seen}
 use Rattle.dsda_cli.proofs.TakeLemmas.{told_lists, missing_told}
-use Rattle.dsda_cli.proofs.MeaningLemmas.{taken_meant}
-use Rattle.dsda_cli.proofs.EndLemmas.{OnlyTook, ends_behind, told_outcome, told_outcome_meant, take_fault_ends}
+use Rattle.dsda_cli.proofs.EndLemmas.{OnlyTook, judged_ends, take_fault_stops}
 use Rattle.dsda_cli.proofs.program.carry_out.Goals as goal
 
 -- What was taken is judged, and the run ends as the judgement does.
@@ -16,15 +14,12 @@ returns-in-Ok-clause-ends g c =
     let taken = c.take_all-taken.ensures in
     let took : OnlyTook before mid = record { files = taken.holds; takes = taken.takes; puts = taken.puts; text = refl; pushes = refl } in
     let texts = map (λ text. text.items) c.in-Ok.texts.items in
-    let answer = answer_of c.args.command texts in
     let told = told_lists (g.S.Shelf.holds c.args.shelf.now) c.args.words.now (inputs_of c.args.command) _ c.in-Ok.texts.items c.inputs_of.ensures c.in-Ok.ensures.told in
-    let judged = rw c.deref.ensures.value at c.judge.ensures in
-    let ended = rw (c.word.ensures, c.out_of.ensures) at (c.conclude.ensures.ends answer judged) in
+    let judged = c.judge.ensures in
+    let ended = rw c.out_name.ensures at c.conclude.ensures.ends in
     let later = c.conclude.ensures.later in
     record {
-      outcome = outcome_under (word_at c.args.words.now (out_of c.args.command)) answer;
-      meant = taken_meant (g.S.Shelf.holds c.args.shelf.now) c.args.words.now c.args.command texts c.requires told;
-      ends = ends_behind (λ sure. (taken.stays_sure sure.0, sure.1)) _ before mid after c.conclude.result took ended;
+      ending = judged_ends (λ sure. (taken.stays_sure sure.0, sure.1)) c.args.words.now c.args.command texts c.judge.result before mid after c.conclude.result c.requires told took judged ended;
       later = record { takes = omega (arith, taken.takes, later.takes); puts = omega (arith, taken.puts, later.puts); pushes = omega (arith, later.pushes) };
     }
 
@@ -36,8 +31,6 @@ returns-in-Err-clause-ends g c =
     let taken = c.take_all-taken.ensures in
     let took : OnlyTook before after = record { files = taken.holds; takes = taken.takes; puts = taken.puts; text = refl; pushes = refl } in
     record {
-      outcome = told_outcome c.args.words.now (g.S.Shelf.holds c.args.shelf.now);
-      meant = told_outcome_meant c.args.words.now (g.S.Shelf.holds c.args.shelf.now);
-      ends = rw c.status_of_take.ensures (take_fault_ends c.args.words.now c.args.command before after c.in-Err.fault c.requires took (λ failed. taken.cause (c.in-Err.is ∙ ap Err failed)) (λ failed sure. missing_told (g.S.Shelf.holds c.args.shelf.now) c.args.words.now (inputs_of c.args.command) _ c.inputs_of.ensures (taken.missing (c.in-Err.is ∙ ap Err failed) sure.0)));
+      ending = rw c.status_of_take.ensures (inl (take_fault_stops c.args.words.now c.args.command before after c.in-Err.fault c.requires took (λ failed. taken.cause (c.in-Err.is ∙ ap Err failed)) (λ failed sure. missing_told (g.S.Shelf.holds c.args.shelf.now) c.args.words.now (inputs_of c.args.command) _ c.inputs_of.ensures (taken.missing (c.in-Err.is ∙ ap Err failed) sure.0))));
       later = record { takes = taken.takes; puts = omega (arith, taken.puts); pushes = omega arith };
     }

@@ -1,4 +1,4 @@
-use Rattle.std.proofs.Common.{◌≡◌, IsErrOf, rules}
+use Rattle.std.proofs.Common.{IsErrOf}
 use Rattle.std.proofs.lemmas.Result.{err_from_is_err_and}
 use Rattle.doom_edge.specs.declared.shelf.TakeFault.TheVariants.{Failed}
 use Rattle.dsda_cli.proofs.TakeLemmas.{missing_at}
