@@ -10,7 +10,7 @@ use Rattle.build_edits.specs.Edits.{put_outcome, insert_outcome, delete_outcome,
 use Rattle.build_edits.specs.declared.fault.EditFault.{EditFault}
 use Rattle.build_edits.specs.declared.fault.EditFault.TheVariants.{Before, TooLong}
 
--- the tics before the cursor stand at the front of the tape that is new
+-- the tics before the old cursor stand at the front of the new tape
 pub record Keeps (old new : Parts) : Type 0 where
   pub rest : List Tic
   pub is : all_tics new ≡ old.before ++ rest
@@ -29,6 +29,7 @@ done_after : (first second : Bool) (fault other : EditFault) (edited new : Parts
 done_after true second fault other edited new is = absurd cc
 done_after false second fault other edited new is = done_is second other edited new is
 
+-- what each edit, done, keeps
 pub put_keeps : (tic : Tic) (old new : Parts) → put_outcome tic old ≡ Ok new → Keeps old new
 put_keeps tic old new is = record {
   rest = tic ∷ drop 1 old.after;
@@ -68,7 +69,7 @@ accept_keeps tics old new is = record {
   is = ap all_tics (sym (done_is _ _ _ new is)) ∙ append_assoc old.before tics [];
 }
 
--- the frames that are left after an edit belong to the tape that is new
+-- The frames that are left after an edit belong to the new tape, given what a cut of frames promises.
 pub frames_keep : {G W : Type 0}
     (rules : Ghosts G W) (game : G) (old new : Parts) (kept left : List W) (place : ℕ)
     → place ≡ length old.before

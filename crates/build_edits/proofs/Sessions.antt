@@ -15,12 +15,14 @@ record Has {G : Type 0} (old new : Built G) (parts : Parts) : Type 0 where
   game : new.game ≡ old.game
   tape : new.tape ≡ parts
 
+-- an edit that was done
 done : {G : Type 0} (old new : Built G) (reach : ℕ) (outcome : Outcome)
     → with_tape old reach outcome ≡ Ok new
     → Has old new (result_unwrap_or outcome old.tape)
 done old new reach (Ok tape) is = record { game = cc; tape = cc }
 done old new reach (Err fault) is = absurd cc
 
+-- an edit that was refused
 refused : {G : Type 0} (old new : Built G) (reach : ℕ) (outcome : Outcome) (fault : EditFault)
     → with_tape old reach outcome ≡ Err fault
     → new ≡ old
@@ -28,7 +30,7 @@ refused : {G : Type 0} (old new : Built G) (reach : ℕ) (outcome : Outcome) (fa
 refused old new reach (Ok tape) fault is same = absurd cc
 refused old new reach (Err other) fault is same = record { game = cc; tape = cc }
 
--- a call that has answered, and not for want of memory
+-- an edit that has answered, and not for want of memory
 answered : {G : Type 0}
     (old new : Built G) (reach : ℕ) (outcome : Outcome) (result : Result (Unit {0}) EditFault)
     → result ≢ Err Memory
@@ -41,6 +43,7 @@ answered old new reach outcome (Err (Place count)) found is =
 answered old new reach outcome (Err Before) found is = refused old new reach outcome Before is.0 is.1
 answered old new reach outcome (Err TooLong) found is = refused old new reach outcome TooLong is.0 is.1
 
+-- the same of any edit
 edited : {G : Type 0} (edit : Edit) (old new : Built G)
     → Edited edit old new
     → Has old new (result_unwrap_or (outcome_of edit old.tape) old.tape)
