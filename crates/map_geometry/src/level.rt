@@ -143,10 +143,11 @@ impl Level {
         self.parts.subsectors[i]
     }
 
-    /// No way down from the last node passes more nodes than this.
+    /// No way down from the last node passes more nodes than this. There is a subsector, also without nodes.
     pub fn node_count(&self) -> usize
         ensures count { result ≡ length self.now.nodes }
         ensures ends { WalksEnd self.now.nodes }
+        ensures subsectors { 0 < length self.now.subsectors }
     {
         self.parts.nodes.len()
     }

@@ -14,13 +14,13 @@ pub struct Spot {
 /// The slope of a line. A line without length is vertical.
 #[derive(Clone, Copy, Debug, PartialEq, Eq)]
 pub enum Slope {
-    /// `dy` is 0.
+    /// `dx` is not 0, and `dy` is.
     Horizontal,
     /// `dx` is 0.
     Vertical,
-    /// `dy / dx` is above 0.
+    /// `dy / dx`, as a quotient in fixed point, is above 0.
     Positive,
-    /// `dy / dx` is below 0.
+    /// Otherwise: the quotient is below 0, or so near to 0 that it is 0 in fixed point.
     Negative,
 }
 
