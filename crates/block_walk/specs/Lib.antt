@@ -1,3 +1,6 @@
 pub mod Places
+pub mod Blocks
+pub mod Steps
 pub use Rattle.map_geometry.specs.Lists
+pub use Rattle.map_geometry.specs.Blocks
 pub use Rattle.map_geometry.specs.Sides

@@ -1,6 +1,13 @@
 //! Where places lie in a level: the subsector of a place, the lines round a box, and those that a trace meets.
 #![tactic(auto)]
 
+mod blocks;
+mod lines;
+mod lists;
+mod marks;
+mod numbers;
 mod places;
 
+pub use blocks::{Block, BlockBox, blocks_of};
+pub use lines::lines_in;
 pub use places::subsector_at;

@@ -225,11 +225,12 @@ impl Level {
         self.parts.width
     }
 
-    /// The number of the grid's rows: at least one, and below 2^15.
+    /// The number of the grid's rows: at least one, and below 2^15. The grid's blocks are the cells.
     pub fn height(&self) -> u32
         ensures value { result ≡ self.now.height }
         ensures some { 0 < result }
         ensures below { result < 2 ^ 15 }
+        ensures cells { length self.now.cells ≡ self.now.width * result }
     {
         self.parts.height
     }
