@@ -1,11 +1,11 @@
 -- One bit for each line, in words of 64.
-use Rattle.std.proofs.Common.{◌≡◌, ◌≢◌, ℕ, zero, suc, ◌+◌, ◌*◌, ◌/◌, ◌%◌, ◌^◌, ◌<◌, ◌≤◌, ◌⊎◌, Bool, true, false, not, ◌||◌, eqb, List, length, get_or, set, w64, bit_and, bit_or, refl, sym, ap, ◌∙◌, inl, inr, arith}
+use Rattle.std.proofs.Common.{◌≡◌, ◌≢◌, ℕ, zero, suc, ◌*◌, ◌/◌, ◌%◌, ◌^◌, ◌<◌, ◌⊎◌, Bool, true, false, not, ◌||◌, eqb, List, length, get_or, set, replicate, w64, bit_and, bit_or, refl, sym, ap, ◌∙◌, inl, inr, arith}
 use Rattle.std.specs.Int.{bit_at}
-use Rattle.std.proofs.lemmas.Bool.{cases_eq, cases_Bool, eq-eqb, ne_eqb}
+use Rattle.std.proofs.lemmas.Bool.{cases_lt, cases_eq, eq-eqb, ne_eqb}
 use Rattle.std.proofs.lemmas.Nat.{one_shl, pow_pos, mod_below}
-use Rattle.std.proofs.lemmas.Nat.Bits.{and_pow, bit_at-lt, bit_at_set_same, bit_at_set_other}
-use Rattle.std.proofs.lemmas.List.{get_or-set_same, get_or-set_other}
-use Rattle.block_walk.specs.Steps.{is_marked}
+use Rattle.std.proofs.lemmas.Nat.Bits.{bit_at-zero, and_pow, bit_at-lt, bit_at_set_same, bit_at_set_other}
+use Rattle.std.proofs.lemmas.List.{get_or-set_same, get_or-set_other, get_or-replicate, get_or_past, length-replicate}
+use Rattle.block_walk.specs.Steps.{is_marked, IsClear}
 
 zero_or_one : (n : ℕ) → n < 2 → (n ≡ 0) ⊎ (n ≡ 1)
 zero_or_one zero small = inl refl
@@ -51,3 +51,11 @@ bit_set met line n place new at within is = elim (cases_eq (n / 64) place) [
 pub bit_unset : (met : List ℕ) (line place : ℕ) → place ≡ line / 64 → eqb (bit_and (get_or met place 0) (1 * 2 ^ (line % 64) % 2 ^ 64)) 0 ≡ not (is_marked met line)
 unfolding is_marked
 bit_unset met line place at = rw at (bit_test (get_or met (line / 64) 0) (line % 64) (mod_below line 64 (omega arith)))
+
+-- words of zeros mark nothing
+pub zeros_clear : (words : ℕ) → IsClear (replicate words 0)
+unfolding is_marked
+zeros_clear words line = elim (cases_lt (line / 64) words) [
+  | inl within ↦ rw (get_or-replicate {A = ℕ} words (line / 64) 0 0 within, bit_at-zero (line % 64)) refl
+  | inr past ↦ rw (get_or_past {X = ℕ} (replicate words 0) (line / 64) 0 (omega (arith, length-replicate {A = ℕ} words 0)), bit_at-zero (line % 64)) refl
+]

@@ -1,2 +1,7 @@
+pub mod Ahead
 pub mod Bits
 pub mod Descent
+pub mod Fresh
+pub mod Joined
+pub mod Spans
+pub mod Walks

@@ -1,5 +1,5 @@
 pub mod Places
-pub mod Blocks
+pub mod Near
 pub mod Steps
 pub use Rattle.map_geometry.specs.Lists
 pub use Rattle.map_geometry.specs.Blocks

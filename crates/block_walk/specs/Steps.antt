@@ -1,9 +1,11 @@
 -- What one step of a walk tells the next. No public contract cites these.
-use Rattle.std.specs.Prelude.{◌≡◌, ℕ, ◌*◌, ◌/◌, ◌%◌, ◌<◌, ◌≤◌, min, ◌==◌, Bool, true, not, ◌||◌, List, [], ◌∷◌, length, slice_index, if◌then◌else◌}
+use Rattle.std.specs.Prelude.{◌≡◌, ℕ, ◌*◌, ◌/◌, ◌%◌, ◌<◌, ◌≤◌, min, ◌==◌, Bool, true, false, ◌||◌, List, [], ◌∷◌, ◌++◌, length, slice_index, All, if◌then◌else◌}
 use Rattle.std.specs.Int.{bit_at}
 use Rattle.std.specs.List.{list_any}
 use Rattle.map_geometry.specs.Lists.{Lists}
 use Rattle.map_geometry.specs.Blocks.{block_list}
+use Rattle.block_walk.specs.declared.blocks.Block.{Block}
+use Rattle.block_walk.specs.Near.{joined}
 
 -- whether a line's bit is set
 unfoldable pub is_marked : List ℕ → ℕ → Bool
@@ -26,6 +28,29 @@ abbrev pub fresh : (ℕ → Bool) → List ℕ → List ℕ
 fresh seen [] = []
 fresh seen (x ∷ xs) = if seen x then fresh seen xs else x ∷ fresh (λ n. seen n || x == n) xs
 
+-- A walk met the lines of a list. They are marked, and what `keep` makes of those that were not is appended.
+pub record Adds {X : Type 0} (keep : List ℕ → List X) (old new : List ℕ) (before after : List X) (xs : List ℕ) : Type 0 where
+  pub marks : Marks old new xs
+  pub more : after ≡ before ++ keep (fresh (is_marked old) xs)
+
+-- the lines themselves
+abbrev pub itself : List ℕ → List ℕ
+itself xs = xs
+
+-- nothing is marked
+abbrev pub IsClear : List ℕ → Type 0
+IsClear met = (line : ℕ) → is_marked met line ≡ false
+
+-- numbers of lines that are there
+abbrev pub AreLines : Lists → List ℕ → Type 0
+AreLines l xs = All (λ line. line < length l.lines) xs
+
 -- the lines of each list that was walked are marked
 pub record AreWalked (l : Lists) (met walked : List ℕ) : Type 0 where
   pub each : (place line : ℕ) → has walked place ≡ true → has (block_list l.words place) line ≡ true → is_marked met line ≡ true
+
+-- A walk met the lines of blocks. It has walked lists whose lines are all marked, and the blocks' lines are there.
+pub record Meets {X : Type 0} (keep : List ℕ → List X) (l : Lists) (lists old new : List ℕ) (before after : List X) (blocks : List Block) : Type 0 where
+  pub walked : AreWalked l new lists
+  pub lines : Adds keep old new before after (joined l blocks)
+  pub there : AreLines l (joined l blocks)

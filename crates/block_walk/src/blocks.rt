@@ -1,7 +1,7 @@
 //! Blocks: the squares of 128 map units that the block map is made of, and the lists of lines in them.
 ghost use Rattle.std.specs.Prelude.{◌≡◌, IfSome, option_map};
 ghost use Rattle.map_geometry.specs.Level.{IsCellIn};
-ghost use Rattle.block_walk.specs.Blocks.{number_of, box_of, cell_of, place_of};
+ghost use Rattle.block_walk.specs.Near.{number_of, box_of, cell_of, place_of};
 
 use crate::numbers::{difference, whole_blocks};
 use map_geometry::{Area, Level};
@@ -69,7 +69,7 @@ fn cell_at(width: u32, height: u32, block: Block) -> Option<usize>
 
 /// The place of a block's list among the words of the block map; none outside the grid.
 #[inline]
-#[tactic(auto, unfolding(crate::specs::Blocks::place_of))]
+#[tactic(auto, unfolding(crate::specs::Near::place_of))]
 pub fn list_of(level: &Level, block: Block) -> Option<u32>
     ensures place { result ≡ place_of level.now block }
     ensures sound { IfSome result (IsCellIn level.now) }

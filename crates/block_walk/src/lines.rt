@@ -2,8 +2,8 @@
 ghost use Rattle.std.specs.Prelude.{◌≡◌, ◌/◌, ◌<◌, ◌++◌, ◌∷◌, [], length, IfSome, All, OnOk, None};
 ghost use Rattle.map_geometry.specs.Level.{IsCellIn};
 ghost use Rattle.map_geometry.specs.Blocks.{block_list};
-ghost use Rattle.block_walk.specs.Blocks.{place_of, joined, column_of, blocks_in, box_of, near};
-ghost use Rattle.block_walk.specs.Steps.{is_marked, HasBits, Marks, AreWalked, fresh};
+ghost use Rattle.block_walk.specs.Near.{column_of, blocks_in, box_of, near};
+ghost use Rattle.block_walk.specs.Steps.{HasBits, IsClear, AreLines, AreWalked, Adds, Meets, itself};
 
 use crate::blocks::{Block, BlockBox, blocks_of, list_of};
 use crate::lists::Walked;
@@ -18,8 +18,7 @@ const END_MARK: u16 = 0xFFFF;
 #[inline]
 fn add_line(line: u16, met: &mut [u64], out: &mut Vec<u32>) -> Result<(), Memory>
     requires { line / 64 < length met.old }
-    ensures marks { OnOk result (Marks met.old met.new (line ∷ [])) }
-    ensures out { OnOk result (out.new.items ≡ out.old.items ++ fresh (is_marked met.old) (line ∷ [])) }
+    ensures { OnOk result (Adds itself met.old met.new out.old.items out.new.items (line ∷ [])) }
 {
     if mark(met, line) {
         out.push(u32::from(line))?;
@@ -36,9 +35,8 @@ fn add_list(
 ) -> Result<(), Memory>
     requires list { IsCellIn level.now place }
     requires bits { HasBits level.now met.old }
-    ensures marks { OnOk result (Marks met.old met.new (block_list level.now.words place)) }
-    ensures out { OnOk result
-        (out.new.items ≡ out.old.items ++ fresh (is_marked met.old) (block_list level.now.words place)) }
+    ensures { OnOk result
+        (Adds itself met.old met.new out.old.items out.new.items (block_list level.now.words place)) }
 {
     for at in place as usize..level.word_count() {
         let word = level.word(at);
@@ -60,10 +58,8 @@ fn add_block(
 ) -> Result<(), Memory>
     requires bits { HasBits level.now met.old }
     requires walked { AreWalked level.now met.old walked.old }
-    ensures walked { OnOk result (AreWalked level.now met.new walked.new) }
-    ensures marks { OnOk result (Marks met.old met.new (joined level.now (block ∷ []))) }
-    ensures out { OnOk result
-        (out.new.items ≡ out.old.items ++ fresh (is_marked met.old) (joined level.now (block ∷ []))) }
+    ensures { OnOk result
+        (Meets itself level.now walked.new met.old met.new out.old.items out.new.items (block ∷ [])) }
 {
     let Some(place) = list_of(level, block) else {
         return Ok(());
@@ -87,11 +83,9 @@ fn add_column(
 ) -> Result<(), Memory>
     requires bits { HasBits level.now met.old }
     requires walked { AreWalked level.now met.old walked.old }
-    ensures walked { OnOk result (AreWalked level.now met.new walked.new) }
-    ensures marks { OnOk result
-        (Marks met.old met.new (joined level.now (column_of blocks.now.bottom blocks.now.top column))) }
-    ensures out { OnOk result (out.new.items ≡ out.old.items
-        ++ fresh (is_marked met.old) (joined level.now (column_of blocks.now.bottom blocks.now.top column))) }
+    ensures { OnOk result
+        (Meets itself level.now walked.new met.old met.new out.old.items out.new.items
+        (column_of blocks.now.bottom blocks.now.top column)) }
 {
     for row in blocks.bottom..=blocks.top {
         add_block(level, Block { column, row }, walked, met, out)?;
@@ -99,21 +93,39 @@ fn add_column(
     Ok(())
 }
 
-/// Appends the lines of a box of blocks, where no line was met.
+/// Appends the lines of a box of blocks that were not met.
 fn add_box(
+    level: &Level,
+    blocks: &BlockBox,
+    walked: &mut Walked,
+    met: &mut [u64],
+    out: &mut Vec<u32>,
+) -> Result<(), Memory>
+    requires bits { HasBits level.now met.old }
+    requires walked { AreWalked level.now met.old walked.old }
+    ensures { OnOk result
+        (Meets itself level.now walked.new met.old met.new out.old.items out.new.items (blocks_in blocks.now)) }
+{
+    for column in blocks.left..=blocks.right {
+        add_column(level, blocks, column, walked, met, out)?;
+    }
+    Ok(())
+}
+
+/// Replaces `out` by the lines of a box of blocks.
+fn fill(
     level: &Level,
     blocks: &BlockBox,
     met: &mut [u64],
     out: &mut Vec<u32>,
 ) -> Result<(), Memory>
     requires bits { HasBits level.now met.old }
-    ensures { OnOk result
-        (out.new.items ≡ out.old.items ++ fresh (is_marked met.old) (joined level.now (blocks_in blocks.now))) }
+    requires clear { IsClear met.old }
+    ensures lines { OnOk result (out.new.items ≡ near level.now (blocks_in blocks.now)) }
+    ensures there { OnOk result (AreLines level.now out.new.items) }
 {
-    let mut walked = Walked::new();
-    for column in blocks.left..=blocks.right {
-        add_column(level, blocks, column, &mut walked, met, out)?;
-    }
+    out.clear();
+    add_box(level, blocks, &mut Walked::new(), met, out)?;
     Ok(())
 }
 
@@ -132,12 +144,11 @@ pub fn lines_in(level: &Level, area: &Area, out: &mut Vec<u32>) -> Result<(), Me
     ensures there { OnOk result (All (λ line. line < length level.now.lines) out.new.items) }
 {
     let blocks = blocks_of(level, area);
-    out.clear();
     if level.line_count() <= FEW_LINES {
         let mut met = [0; FEW_WORDS];
-        add_box(level, &blocks, &mut met, out)
+        fill(level, &blocks, &mut met, out)
     } else {
         let mut met = [0; ALL_WORDS];
-        add_box(level, &blocks, &mut met, out)
+        fill(level, &blocks, &mut met, out)
     }
 }

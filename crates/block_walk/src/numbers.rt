@@ -1,7 +1,7 @@
 //! Sums and differences in 32 bits, and coordinates in blocks of 128 map units.
 ghost use Rattle.std.specs.Prelude.{◌≡◌};
 ghost use Rattle.map_geometry.specs.Sides.{less, plus};
-ghost use Rattle.block_walk.specs.Blocks.{blocks_below};
+ghost use Rattle.block_walk.specs.Near.{blocks_below};
 
 #[inline]
 pub fn difference(a: i32, b: i32) -> i32

@@ -1,7 +1,7 @@
 use Rattle.std.proofs.Common.{rules, FitsSigned, w32, refl}
 use Rattle.std.proofs.lemmas.Int.{to_z-of_z}
 use Rattle.map_geometry.proofs.Ways.{read_back}
-use Rattle.block_walk.specs.Blocks.{box_of}
+use Rattle.block_walk.specs.Near.{box_of}
 use Rattle.block_walk.proofs.blocks.blocks_of.Goals as goal
 
 pub returns : goal.returns

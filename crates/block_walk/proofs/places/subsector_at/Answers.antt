@@ -1,8 +1,6 @@
-use Rattle.std.proofs.Common.{◌≡◌, ◌-◌, w32, sym, ◌∙◌, arith}
+use Rattle.std.proofs.Common.{w32, sym, ◌∙◌, arith}
 use Rattle.std.proofs.lemmas.Int.{to_z-of_z}
-use Rattle.map_geometry.specs.Lists.{nth_node}
-use Rattle.block_walk.specs.Places.{child_of}
-use Rattle.block_walk.proofs.Descent.{Descends, without_nodes, begins, comes_to, goes_on}
+use Rattle.block_walk.proofs.Descent.{without_nodes, begins, comes_to, goes_on}
 use Rattle.block_walk.proofs.places.subsector_at.Goals as goal
 
 pub returns-then-count-eq0-clause-place : goal.returns-then-count-eq0-clause-place
