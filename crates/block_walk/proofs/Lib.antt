@@ -3,5 +3,6 @@ pub mod Bits
 pub mod Descent
 pub mod Fresh
 pub mod Joined
+pub mod Slopes
 pub mod Spans
 pub mod Walks

@@ -2,12 +2,15 @@
 #![tactic(auto)]
 
 mod blocks;
+mod fault;
 mod lines;
 mod lists;
 mod marks;
 mod numbers;
 mod places;
+mod walk;
 
 pub use blocks::{Block, BlockBox, blocks_of};
+pub use fault::TraceFault;
 pub use lines::lines_in;
 pub use places::subsector_at;
