@@ -1,5 +1,6 @@
 pub mod Ahead
 pub mod Bits
+pub mod Crossings
 pub mod Descent
 pub mod Fresh
 pub mod Joined

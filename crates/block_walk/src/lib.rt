@@ -8,6 +8,7 @@ mod lists;
 mod marks;
 mod numbers;
 mod places;
+mod traces;
 mod walk;
 
 pub use blocks::{Block, BlockBox, blocks_of};

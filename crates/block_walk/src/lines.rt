@@ -12,7 +12,7 @@ use doom_edge::Memory;
 use map_geometry::{Area, Level};
 
 /// The word that ends a list.
-const END_MARK: u16 = 0xFFFF;
+pub const END_MARK: u16 = 0xFFFF;
 
 /// Appends a line that was not met.
 #[inline]
@@ -130,12 +130,12 @@ fn fill(
 }
 
 /// As many lines as most levels have at most, and the words that have a bit for each.
-const FEW_LINES: usize = 4096;
+pub const FEW_LINES: usize = 4096;
 
-const FEW_WORDS: usize = 64;
+pub const FEW_WORDS: usize = 64;
 
 /// The words that have a bit for each line that a list can name.
-const ALL_WORDS: usize = 1024;
+pub const ALL_WORDS: usize = 1024;
 
 /// Replaces `out` by the lines in the blocks that an area touches: the blocks' lists, column by column from the
 /// west and each column from the south, without later repeats. Nothing is said of `out` after `Memory`.

@@ -11,7 +11,7 @@ const ONE: i32 = 65536;
 
 /// How a trace that goes along one axis crosses the borders between blocks on it. Places are in fixed point, with
 /// the side of a block as the unit.
-#[derive(Clone, Copy, Debug, PartialEq, Eq)]
+#[derive(Clone, Copy)]
 pub struct Axis {
     /// From a block to the next: 1, -1, or 0 where the trace begins and ends between the same borders.
     pub step: i32,
@@ -35,7 +35,7 @@ impl Axis {
 }
 
 /// A walk from block to block, as far as it has come.
-#[derive(Clone, Copy, Debug, PartialEq, Eq)]
+#[derive(Clone, Copy)]
 pub struct Walk {
     pub block: Block,
     pub last: Block,
