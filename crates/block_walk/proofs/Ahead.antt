@@ -1,5 +1,5 @@
 -- A walk along one list of the block map.
-use Rattle.std.proofs.Common.{◌≡◌, ◌≢◌, ℕ, ◌+◌, ◌/◌, ◌<◌, ◌≤◌, List, [], ◌∷◌, length, get_or, refl, ◌∙◌, arith, All}
+use Rattle.std.proofs.Common.{◌≡◌, ◌≢◌, ℕ, ◌+◌, ◌/◌, ◌<◌, ◌≤◌, List, [], ◌∷◌, ◌++◌, length, get_or, refl, ◌∙◌, arith, All}
 use Rattle.std.proofs.Math.Numerals.{one-add}
 use Rattle.std.proofs.lemmas.Bool.{ne_eqb}
 use Rattle.std.proofs.lemmas.Nat.{div_below}
@@ -7,8 +7,8 @@ use Rattle.std.proofs.lemmas.List.{drop_more, drop_all}
 use Rattle.std.proofs.lemmas.List.Elements.{All-head, All-tail}
 use Rattle.map_geometry.specs.Lists.{Lists}
 use Rattle.map_geometry.specs.Blocks.{block_list, end_mark}
-use Rattle.block_walk.specs.Steps.{HasBits, Adds}
-use Rattle.block_walk.proofs.Fresh.{IsKept, Leads, leads_begin, leads_step, leads_end}
+use Rattle.block_walk.specs.Steps.{HasBits, Adds, is_marked, fresh}
+use Rattle.block_walk.proofs.Fresh.{IsKept, Leads, leads_begin, leads_step, leads_end, leads_many}
 
 -- a list is empty at an end mark and behind the words, and else has its first word and the list behind it
 list_at_mark : (words : List ℕ) (at : ℕ) → at < length words → get_or words at 0 ≡ end_mark → block_list words at ≡ []
@@ -49,6 +49,15 @@ on_list_step keep kept l place at line old met new before out next on below is o
       entries = All-tail (λ entry. entry < length l.lines) line (block_list l.words (at + 1)) (rw split at on.entries);
       leads = leads_step keep kept old met new before out next (block_list l.words place) (line ∷ []) (block_list l.words (at + 1)) ahead adds;
     }
+
+-- what is too much at a line is too much in the end
+pub on_list_many : {X : Type 0} (keep : List ℕ → List X) → IsKept keep → (l : Lists) (place at line : ℕ) (old met : List ℕ) (before out : List X) (most : ℕ) → IsOnList keep l place at old met before out
+    → at < length l.words → line ≡ get_or l.words at 0 → line ≢ end_mark → most < length (out ++ keep (fresh (is_marked met) (line ∷ [])))
+    → most < length (before ++ keep (fresh (is_marked old) (block_list l.words place)))
+on_list_many keep kept l place at line old met before out most on below is other many =
+    let here : get_or l.words at 0 ≢ end_mark = λ mark. other (is ∙ mark) in
+    let split : block_list l.words at ≡ line ∷ block_list l.words (at + 1) = rw is (list_at_line l.words at below here) in
+    leads_many keep kept old met before out (block_list l.words place) (line ∷ []) (block_list l.words (at + 1)) most (rw split at on.leads) many
 
 -- ---- the list ends, by its mark or with the words
 

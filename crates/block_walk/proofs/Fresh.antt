@@ -1,11 +1,11 @@
 -- Lists joined without later repeats, with marks for what was met.
-use Rattle.std.proofs.Common.{◌≡◌, ℕ, Bool, true, false, not, ◌&&◌, ◌||◌, eqb, List, [], ◌∷◌, ◌++◌, refl, sym, ap, ◌∙◌, append_assoc, inl, inr, All}
-use Rattle.std.specs.List.{filter}
+use Rattle.std.proofs.Common.{◌≡◌, ℕ, Bool, true, false, not, ◌&&◌, ◌||◌, eqb, List, [], ◌∷◌, ◌++◌, refl, sym, ap, ◌∙◌, append_assoc, inl, inr, All, length, Option, arith, ◌<◌}
+use Rattle.std.specs.List.{filter, filter_map}
 use Rattle.std.proofs.lemmas.Bool.{cases_Bool, false≢true, eq-eqb}
 use Rattle.std.proofs.lemmas.Bool.Decides.{Decides-eqb}
-use Rattle.std.proofs.lemmas.List.{append-nil}
+use Rattle.std.proofs.lemmas.List.{append-nil, length-append}
 use Rattle.std.proofs.lemmas.List.Folds.{list_any-append}
-use Rattle.std.proofs.lemmas.List.Elements.{All-cons, All-head, All-tail, filter_agree}
+use Rattle.std.proofs.lemmas.List.Elements.{All-cons, All-head, All-tail, filter_agree, filter_map-append}
 use Rattle.block_walk.specs.Near.{first_ones}
 use Rattle.block_walk.specs.Steps.{is_marked, has, Marks, fresh, Adds, itself}
 
@@ -174,3 +174,18 @@ leads_end keep kept old met before out all leads = record {
 
 pub itself_kept : IsKept itself
 itself_kept = record { nil = refl; append = λ xs ys. refl }
+
+-- ---- what a way crosses
+
+pub filter_map_kept : {X : Type 0} (h : ℕ → Option X) → IsKept (filter_map h)
+filter_map_kept h = record { nil = refl; append = filter_map-append h }
+
+-- what is too much already is too much in the end
+pub leads_many : {X : Type 0} (keep : List ℕ → List X) → IsKept keep → (old met : List ℕ) (before out : List X) (all part rest : List ℕ) (most : ℕ) → Leads keep old met before out all (part ++ rest)
+    → most < length (out ++ keep (fresh (is_marked met) part)) → most < length (before ++ keep (fresh (is_marked old) all))
+leads_many keep kept old met before out all part rest most leads many =
+    let both = kept.append (fresh (is_marked met) part) (fresh (λ n. is_marked met n || has part n) rest) in
+    let split = fresh-append (is_marked met) part rest in
+    let end' : before ++ keep (fresh (is_marked old) all) ≡ (out ++ keep (fresh (is_marked met) part)) ++ keep (fresh (λ n. is_marked met n || has part n) rest) =
+        sym leads.same ∙ (ap (λ zs. out ++ zs) (ap keep split ∙ both) ∙ sym (append_assoc out (keep (fresh (is_marked met) part)) (keep (fresh (λ n. is_marked met n || has part n) rest)))) in
+    rw (end', length-append (out ++ keep (fresh (is_marked met) part)) (keep (fresh (λ n. is_marked met n || has part n) rest))) (omega arith)

@@ -106,6 +106,21 @@ fn fraction(way: &DivLine, line: &Line) -> Option<i32>
     if fraction < 0 { None } else { Some(fraction) }
 }
 
+/// Appends a line and the fraction at which it is crossed, unless there are 128.
+fn add_pair(fraction: i32, line: u16, out: &mut Vec<(i32, u32)>) -> Result<(), TraceFault>
+    requires { length out.old.items ≤ 128 }
+    ensures pairs { OnOk result (out.new.items ≡ out.old.items ++ (fraction, line) ∷ []) }
+    ensures few { OnOk result (length out.new.items ≤ 128) }
+    ensures many { IsErrOf result TraceFault.Intercepts
+        → 128 < length (out.old.items ++ (fraction, line) ∷ []) }
+{
+    if out.len() == MOST {
+        return Err(TraceFault::Intercepts);
+    }
+    out.push((fraction, u32::from(line)))?;
+    Ok(())
+}
+
 /// Appends a line that was not met where the way crosses it.
 fn cross_new(
     level: &Level,
@@ -125,21 +140,6 @@ fn cross_new(
         None => Ok(()),
         Some(fraction) => add_pair(fraction, line, out),
     }
-}
-
-/// Appends a line and the fraction at which it is crossed, unless there are 128.
-fn add_pair(fraction: i32, line: u16, out: &mut Vec<(i32, u32)>) -> Result<(), TraceFault>
-    requires { length out.old.items ≤ 128 }
-    ensures pairs { OnOk result (out.new.items ≡ out.old.items ++ (fraction, line) ∷ []) }
-    ensures few { OnOk result (length out.new.items ≤ 128) }
-    ensures many { IsErrOf result TraceFault.Intercepts
-        → 128 < length (out.old.items ++ (fraction, line) ∷ []) }
-{
-    if out.len() == MOST {
-        return Err(TraceFault::Intercepts);
-    }
-    out.push((fraction, u32::from(line)))?;
-    Ok(())
 }
 
 /// Appends a line where it was not met and the way crosses it.
@@ -162,5 +162,63 @@ fn cross_line(
     if mark(met, line) {
         cross_new(level, way, line, out)?;
     }
+    Ok(())
+}
+
+/// Appends the lines of a list that were not met and that the way crosses.
+fn cross_list(
+    level: &Level,
+    way: &DivLine,
+    place: u32,
+    met: &mut [u64],
+    out: &mut Vec<(i32, u32)>,
+) -> Result<(), TraceFault>
+    requires list { IsCellIn level.now place }
+    requires bits { HasBits level.now met.old }
+    requires few { length out.old.items ≤ 128 }
+    ensures pairs { OnOk result (Adds (crossed level.now way.now)
+        met.old met.new out.old.items out.new.items (block_list level.now.words place)) }
+    ensures few { OnOk result (length out.new.items ≤ 128) }
+    ensures many { IsErrOf result TraceFault.Intercepts
+        → 128 < length (out.old.items
+        ++ crossed level.now way.now (fresh (is_marked met.old) (block_list level.now.words place))) }
+{
+    for at in place as usize..level.word_count() {
+        let word = level.word(at);
+        if word == END_MARK {
+            return Ok(());
+        }
+        cross_line(level, way, word, met, out)?;
+    }
+    Ok(())
+}
+
+/// Appends the lines of a block that were not met and that the way crosses, unless its list was walked.
+fn cross_block(
+    level: &Level,
+    way: &DivLine,
+    block: Block,
+    walked: &mut Walked,
+    met: &mut [u64],
+    out: &mut Vec<(i32, u32)>,
+) -> Result<(), TraceFault>
+    requires bits { HasBits level.now met.old }
+    requires walked { AreWalked level.now met.old walked.old }
+    requires few { length out.old.items ≤ 128 }
+    ensures pairs { OnOk result (Meets (crossed level.now way.now)
+        level.now walked.new met.old met.new out.old.items out.new.items (block ∷ [])) }
+    ensures few { OnOk result (length out.new.items ≤ 128) }
+    ensures many { IsErrOf result TraceFault.Intercepts
+        → 128 < length (out.old.items
+        ++ crossed level.now way.now (fresh (is_marked met.old) (joined level.now (block ∷ [])))) }
+{
+    let Some(place) = list_of(level, block) else {
+        return Ok(());
+    };
+    if walked.contains(place) {
+        return Ok(());
+    }
+    cross_list(level, way, place, met, out)?;
+    walked.add(place);
     Ok(())
 }
