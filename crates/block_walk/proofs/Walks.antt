@@ -1,14 +1,16 @@
 -- A walk along blocks.
-use Rattle.std.proofs.Common.{◌≡◌, ℕ, ◌<◌, length, true, false, ℤ, pos, ◌+ℤ◌, List, [], ◌∷◌, ◌++◌, map, ap, ◌∙◌}
+use Rattle.std.proofs.Common.{◌≡◌, ℕ, ◌<◌, length, true, false, ℤ, pos, ◌+ℤ◌, List, [], ◌∷◌, ◌++◌, map, ap, ◌∙◌, suc, ◌-◌, ◌+◌, ◌≤◌, cond, refl, arith}
 use Rattle.std.specs.Prelude.{int_le}
 use Rattle.std.specs.List.{flat_map}
 use Rattle.std.proofs.lemmas.List.Elements.{All-nil, All-append}
 use Rattle.map_geometry.specs.Lists.{Lists}
 use Rattle.block_walk.specs.declared.blocks.Block.{Block}
 use Rattle.block_walk.specs.declared.blocks.BlockBox.{BlockBox}
+use Rattle.block_walk.specs.declared.walk.Walk.{Walk}
+use Rattle.block_walk.specs.Visits.{is_at_end, next_of, visited}
 use Rattle.block_walk.specs.Near.{span, column_of, joined, near}
-use Rattle.block_walk.specs.Steps.{is_marked, IsClear, AreLines, AreWalked, Meets, itself}
-use Rattle.block_walk.proofs.Fresh.{fresh_first_ones, All-fresh, itself_kept, IsKept, Leads, leads_begin, leads_step, leads_end}
+use Rattle.block_walk.specs.Steps.{is_marked, IsClear, AreLines, AreWalked, Meets, itself, fresh}
+use Rattle.block_walk.proofs.Fresh.{fresh_first_ones, All-fresh, itself_kept, IsKept, Leads, leads_begin, leads_step, leads_end, leads_many}
 use Rattle.block_walk.proofs.Joined.{joined-append}
 use Rattle.block_walk.proofs.Spans.{span_none, span_first}
 
@@ -80,3 +82,46 @@ meets_near l lists met new out blocks clear meets = meets.lines.more ∙ fresh_f
 
 pub meets_there : (l : Lists) (lists met new out : List ℕ) (blocks : List Block) → Meets itself l lists met new [] out blocks → AreLines l out
 meets_there l lists met new out blocks meets = rw meets.lines.more (All-fresh (λ line. line < length l.lines) (is_marked met) (joined l blocks) meets.there)
+
+-- ---- the blocks that a trace visits
+
+-- what is too much in some blocks is too much in the end
+pub on_blocks_many : {X : Type 0} (keep : List ℕ → List X) → IsKept keep → (l : Lists) (lists old met : List ℕ) (before out : List X) (all part rest : List Block) (most : ℕ)
+    → IsOnBlocks keep l lists old met before out all (part ++ rest) → most < length (out ++ keep (fresh (is_marked met) (joined l part)))
+    → most < length (before ++ keep (fresh (is_marked old) (joined l all)))
+on_blocks_many keep kept l lists old met before out all part rest most on many =
+    leads_many keep kept old met before out (joined l all) (joined l part) (joined l rest) most (rw (joined-append l part rest) at on.leads) many
+
+abbrev pub visits_behind : ℕ → Walk → List Block
+visits_behind more walk = cond (is_at_end walk) [] (visited more (next_of walk))
+
+visit_first : (visit : ℕ) (walk : Walk) → visit < 64 → visited (64 - visit) walk ≡ (walk.block ∷ []) ++ visits_behind (64 - (visit + 1)) walk
+unfolding visited
+visit_first visit walk below =
+    let one_more : 64 - visit ≡ suc (64 - (visit + 1)) = omega arith in
+    rw one_more refl
+
+pub no_visits : (visit : ℕ) (walk : Walk) → 64 ≤ visit → visited (64 - visit) walk ≡ []
+unfolding visited
+no_visits visit walk all =
+    let none : 64 - visit ≡ 0 = omega arith in
+    rw none refl
+
+module _ {X : Type 0} (keep : List ℕ → List X) (kept : IsKept keep) (l : Lists) (lists old met : List ℕ) (before out : List X) (all : List Block) (walk : Walk) (visit : ℕ) (below : visit < 64)
+    (on : IsOnBlocks keep l lists old met before out all (visited (64 - visit) walk)) where
+  behind : IsOnBlocks keep l lists old met before out all ((walk.block ∷ []) ++ visits_behind (64 - (visit + 1)) walk)
+  behind = rw (visit_first visit walk below) at on
+
+  pub visit_step : (lists' new : List ℕ) (next : List X) → Meets keep l lists' met new out next (walk.block ∷ []) → is_at_end walk ≡ false
+      → IsOnBlocks keep l lists' old new before next all (visited (64 - (visit + 1)) (next_of walk))
+  visit_step lists' new next meets goes_on =
+      let after = on_blocks_step keep kept l lists lists' old met new before out next all (walk.block ∷ []) (visits_behind (64 - (visit + 1)) walk) behind meets in
+      rw goes_on at after
+
+  pub visit_last : (lists' new : List ℕ) (next : List X) → Meets keep l lists' met new out next (walk.block ∷ []) → is_at_end walk ≡ true → Meets keep l lists' old new before next all
+  visit_last lists' new next meets ends =
+      let after = on_blocks_step keep kept l lists lists' old met new before out next all (walk.block ∷ []) (visits_behind (64 - (visit + 1)) walk) behind meets in
+      on_blocks_end keep kept l lists' old new before next all [] (rw ends at after) refl
+
+  pub visit_many : (most : ℕ) → most < length (out ++ keep (fresh (is_marked met) (joined l (walk.block ∷ [])))) → most < length (before ++ keep (fresh (is_marked old) (joined l all)))
+  visit_many most many = on_blocks_many keep kept l lists old met before out all (walk.block ∷ []) (visits_behind (64 - (visit + 1)) walk) most behind many

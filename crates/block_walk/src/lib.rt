@@ -15,3 +15,4 @@ pub use blocks::{Block, BlockBox, blocks_of};
 pub use fault::TraceFault;
 pub use lines::lines_in;
 pub use places::subsector_at;
+pub use traces::trace;

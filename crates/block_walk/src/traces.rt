@@ -1,8 +1,8 @@
 //! The lines that a trace meets, in the order in which it meets them.
-ghost use Rattle.std.specs.Prelude.{◌≡◌, ◌/◌, ◌<◌, ◌≤◌, ◌++◌, ◌∷◌, [], length, All, OnOk, IsErrOf};
+ghost use Rattle.std.specs.Prelude.{◌≡◌, ◌/◌, ◌<◌, ◌≤◌, ◌++◌, ◌∷◌, [], length, All, OnOk, IfErr, IsErrOf};
 ghost use Rattle.map_geometry.specs.Level.{IsCellIn};
 ghost use Rattle.map_geometry.specs.Blocks.{block_list};
-ghost use Rattle.block_walk.specs.Near.{joined};
+ghost use Rattle.block_walk.specs.Near.{joined, near};
 ghost use Rattle.block_walk.specs.Visits.{visited};
 ghost use Rattle.block_walk.specs.Steps.{is_marked, HasBits, IsClear, AreWalked, Adds, Meets, fresh};
 ghost use Rattle.block_walk.specs.Traces.{off_border, way_of, walk_of, is_long, is_crossed, fraction_at, crossed, intercepts_on, intercepts_of, in_order, reached};
@@ -221,4 +221,117 @@ fn cross_block(
     cross_list(level, way, place, met, out)?;
     walked.add(place);
     Ok(())
+}
+
+/// Appends the lines that were not met and that the way crosses in the blocks of a walk.
+fn cross_visited(
+    level: &Level,
+    way: &DivLine,
+    begin: Walk,
+    walked: &mut Walked,
+    met: &mut [u64],
+    out: &mut Vec<(i32, u32)>,
+) -> Result<(), TraceFault>
+    requires bits { HasBits level.now met.old }
+    requires walked { AreWalked level.now met.old walked.old }
+    requires few { length out.old.items ≤ 128 }
+    ensures pairs { OnOk result (Meets (crossed level.now way.now)
+        level.now walked.new met.old met.new out.old.items out.new.items (visited 64 begin)) }
+    ensures few { OnOk result (length out.new.items ≤ 128) }
+    ensures many { IsErrOf result TraceFault.Intercepts
+        → 128 < length (out.old.items
+        ++ crossed level.now way.now (fresh (is_marked met.old) (joined level.now (visited 64 begin)))) }
+{
+    let mut walk = begin;
+    for _visit in 0..VISITS {
+        cross_block(level, way, walk.block, walked, met, out)?;
+        if walk.is_at_end() {
+            return Ok(());
+        }
+        walk = walk.next();
+    }
+    Ok(())
+}
+
+/// Replaces `out` by the lines that the way crosses in the blocks of a walk.
+fn collect(
+    level: &Level,
+    way: &DivLine,
+    walk: Walk,
+    met: &mut [u64],
+    out: &mut Vec<(i32, u32)>,
+) -> Result<(), TraceFault>
+    requires bits { HasBits level.now met.old }
+    requires clear { IsClear met.old }
+    ensures pairs { OnOk result
+        (out.new.items ≡ crossed level.now way.now (near level.now (visited 64 walk))) }
+    ensures few { OnOk result (length out.new.items ≤ 128) }
+    ensures there { OnOk result (All (λ pair. pair.1 < length level.now.lines) out.new.items) }
+    ensures many { IsErrOf result TraceFault.Intercepts
+        → 128 < length (crossed level.now way.now (near level.now (visited 64 walk))) }
+{
+    out.clear();
+    cross_visited(level, way, walk, &mut Walked::new(), met, out)?;
+    Ok(())
+}
+
+/// The same, with as many marks as the level has lines.
+fn collect_all(
+    level: &Level,
+    way: &DivLine,
+    walk: Walk,
+    out: &mut Vec<(i32, u32)>,
+) -> Result<(), TraceFault>
+    ensures pairs { OnOk result
+        (out.new.items ≡ crossed level.now way.now (near level.now (visited 64 walk))) }
+    ensures few { OnOk result (length out.new.items ≤ 128) }
+    ensures there { OnOk result (All (λ pair. pair.1 < length level.now.lines) out.new.items) }
+    ensures many { IsErrOf result TraceFault.Intercepts
+        → 128 < length (crossed level.now way.now (near level.now (visited 64 walk))) }
+{
+    if level.line_count() <= FEW_LINES {
+        let mut met = [0; FEW_WORDS];
+        collect(level, way, walk, &mut met, out)
+    } else {
+        let mut met = [0; ALL_WORDS];
+        collect(level, way, walk, &mut met, out)
+    }
+}
+
+/// Puts pairs in the order of their fractions, and drops those that lie behind the end.
+fn put_in_order(out: &mut Vec<(i32, u32)>) -> Result<(), TraceFault>
+    ensures order { OnOk result (out.new.items ≡ reached (in_order out.old.items)) }
+    ensures cause { IfErr result (λ fault. fault ≡ TraceFault.Memory) }
+{
+    out.sort_by_key(|pair| pair.0)?;
+    out.retain(|pair| pair.0 <= ONE);
+    Ok(())
+}
+
+/// Replaces `out` by the lines that a trace from (x1, y1) to (x2, y2) meets, each with the fraction of the way at
+/// which it does, in the order of the fractions. All coordinates and fractions are in fixed point.
+///
+/// The lines are those in the blocks that the trace visits, 64 at most; of lines that are met at one place the
+/// one that stands first in the blocks' lists comes first. Lines behind the trace's beginning or end are left out.
+/// More than 128 lines, those behind the end with them, are `Intercepts`. Nothing is said of `out` after a fault.
+pub fn trace(
+    level: &Level,
+    x1: i32,
+    y1: i32,
+    x2: i32,
+    y2: i32,
+    out: &mut Vec<(i32, u32)>,
+) -> Result<(), TraceFault>
+    ensures pairs { OnOk result
+        (out.new.items ≡ reached (in_order (intercepts_of level.now x1 y1 x2 y2))) }
+    ensures there { OnOk result (All (λ pair. pair.1 < length level.now.lines) out.new.items) }
+    // Unless memory runs out, a trace halts where it meets more than 128 lines, and only there.
+    ensures few { OnOk result (length (intercepts_of level.now x1 y1 x2 y2) ≤ 128) }
+    ensures many { IsErrOf result TraceFault.Intercepts
+        → 128 < length (intercepts_of level.now x1 y1 x2 y2) }
+{
+    let way = way(level, x1, y1, x2, y2);
+    let walk = walk(level, &way, x2, y2);
+    collect_all(level, &way, walk, out)?;
+    put_in_order(out)
 }
