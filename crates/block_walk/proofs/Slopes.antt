@@ -11,7 +11,7 @@ use Rattle.fixed_angle.specs.Fixed.{units_of}
 use Rattle.block_walk.specs.declared.walk.Axis.{Axis}
 use Rattle.block_walk.specs.declared.walk.Walk.{Walk}
 use Rattle.map_geometry.specs.Sides.{less}
-use Rattle.block_walk.specs.Near.{blocks_below}
+use Rattle.map_geometry.specs.Blocks.{blocks_below}
 use Rattle.block_walk.specs.Visits.{in_blocks, part_of_block, slope_between, axis_by, axis_of, column_next, row_next, next_of}
 
 -- ---- numbers of 32 bits, cast and read again

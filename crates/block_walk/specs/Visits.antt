@@ -3,11 +3,11 @@ use Rattle.std.specs.Prelude.{ℕ, zero, suc, ℤ, pos, negsuc, ◌-ℤ◌, Bool
 use Rattle.std.specs.Int.{int_div_euclid, int_rem_euclid}
 use Rattle.std.specs.Ordering.{int_eq}
 use Rattle.fixed_angle.specs.Fixed.{units_of, mul, div}
+use Rattle.map_geometry.specs.Blocks.{blocks_below}
 use Rattle.map_geometry.specs.Sides.{less, plus}
 use Rattle.block_walk.specs.declared.blocks.Block.{Block}
 use Rattle.block_walk.specs.declared.walk.Axis.{Axis}
 use Rattle.block_walk.specs.declared.walk.Walk.{Walk}
-use Rattle.block_walk.specs.Near.{blocks_below}
 
 -- a length in fixed point with the side of a block as the unit, rounded down
 abbrev pub in_blocks : ℤ → ℤ

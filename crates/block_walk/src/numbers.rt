@@ -2,7 +2,6 @@
 ghost use Rattle.std.specs.Prelude.{◌≡◌};
 ghost use Rattle.map_geometry.specs.Sides.{less, plus};
 ghost use Rattle.fixed_angle.specs.Fixed.{units_of};
-ghost use Rattle.block_walk.specs.Near.{blocks_below};
 ghost use Rattle.block_walk.specs.Visits.{in_blocks};
 
 #[inline]
@@ -17,14 +16,6 @@ pub fn sum(a: i32, b: i32) -> i32
     ensures { result ≡ plus a b }
 {
     a.wrapping_add(b)
-}
-
-/// How many whole blocks a length has, rounded down.
-#[inline]
-pub fn whole_blocks(length: i32) -> i32
-    ensures { result ≡ blocks_below length }
-{
-    length >> 23
 }
 
 /// A length in fixed point with the side of a block as the unit, rounded down.

@@ -3,8 +3,9 @@ ghost use Rattle.std.specs.Prelude.{◌≡◌};
 ghost use Rattle.block_walk.specs.Visits.{in_blocks, part_of_block, slope_between, axis_by, axis_of, begin_of, is_at_end, moved_of, column_next, row_next, next_of};
 
 use crate::blocks::Block;
-use crate::numbers::{difference, in_blocks, sum, whole, whole_blocks};
+use crate::numbers::{difference, in_blocks, sum, whole};
 use fixed_angle::{fixed_div, fixed_mul};
+use map_geometry::blocks_below;
 
 /// One in fixed point.
 const ONE: i32 = 65536;
@@ -79,8 +80,8 @@ fn axis_with(step: i32, away: i32, slope: i32, across: i32) -> Axis
 fn axis_between(from: i32, to: i32, across: i32, across_to: i32) -> Axis
     ensures { result ≡ axis_of from to across across_to }
 {
-    let begin = whole_blocks(from);
-    let end = whole_blocks(to);
+    let begin = blocks_below(from);
+    let end = blocks_below(to);
     if begin == end {
         return axis_with(0, ONE, 256 * ONE, across);
     }
@@ -100,12 +101,12 @@ impl Walk {
     {
         Walk {
             block: Block {
-                column: whole_blocks(x1),
-                row: whole_blocks(y1),
+                column: blocks_below(x1),
+                row: blocks_below(y1),
             },
             last: Block {
-                column: whole_blocks(x2),
-                row: whole_blocks(y2),
+                column: blocks_below(x2),
+                row: blocks_below(y2),
             },
             x: axis_between(x1, x2, y1, y2),
             y: axis_between(y1, y2, x1, x2),
