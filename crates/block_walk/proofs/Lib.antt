@@ -4,6 +4,7 @@ pub mod Crossings
 pub mod Descent
 pub mod Fresh
 pub mod Joined
+pub mod Order
 pub mod Slopes
 pub mod Spans
 pub mod Walks

@@ -333,5 +333,6 @@ pub fn trace(
     let way = way(level, x1, y1, x2, y2);
     let walk = walk(level, &way, x2, y2);
     collect_all(level, &way, walk, out)?;
-    put_in_order(out)
+    put_in_order(out)?;
+    Ok(())
 }

@@ -1,5 +1,5 @@
-use Rattle.std.proofs.Common.{◌≡◌, ◌≤◌, true, false, sym, ◌∙◌, arith, rules}
-use Rattle.block_walk.specs.Visits.{visited, is_at_end}
+use Rattle.std.proofs.Common.{sym, ◌∙◌, arith, rules}
+use Rattle.block_walk.specs.Visits.{visited}
 use Rattle.block_walk.specs.Traces.{crossing_of, crossed}
 use Rattle.block_walk.proofs.Fresh.{filter_map_kept}
 use Rattle.block_walk.proofs.Walks.{on_blocks_end, no_visits, visit_step, visit_last, visit_many}
