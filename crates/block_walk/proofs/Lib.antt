@@ -1,0 +1,10 @@
+pub mod Ahead
+pub mod Bits
+pub mod Crossings
+pub mod Descent
+pub mod Fresh
+pub mod Joined
+pub mod Order
+pub mod Slopes
+pub mod Spans
+pub mod Walks

@@ -1,0 +1,24 @@
+-- The subsector of a place.
+use Rattle.std.specs.Prelude.{ℕ, zero, suc, ◌-◌, ◌==◌, ℤ, nat_lt, length, if◌then◌else◌}
+use Rattle.map_geometry.specs.declared.records.Node.{Node}
+use Rattle.map_geometry.specs.Lists.{Lists, nth_node}
+use Rattle.map_geometry.specs.Sides.{side_of_node}
+
+-- the child of a node on whose side a place is
+unfoldable pub child_of : Node → ℤ → ℤ → ℕ
+child_of node x y = if side_of_node node x y == 0 then node.child_0 else node.child_1
+
+-- The subsector to which the way down from a child leads: a child from 32768 on is a subsector, and another one a
+-- node, from which the way goes on to that node's child for the place. So many nodes may be passed at most.
+unfoldable pub subsector_below : Lists → ℤ → ℤ → ℕ → ℕ → ℕ
+subsector_below l x y zero child = child - 32768
+subsector_below l x y (suc more) child =
+    if nat_lt child 32768 then subsector_below l x y more (child_of (nth_node l child) x y)
+    else child - 32768
+
+-- The subsector of a place: the way down begins at the last node. Without nodes it is the first one. No way down
+-- passes more nodes than a level has.
+unfoldable pub subsector_of : Lists → ℤ → ℤ → ℕ
+subsector_of l x y =
+    if length l.nodes == 0 then 0
+    else subsector_below l x y (length l.nodes) (child_of (nth_node l (length l.nodes - 1)) x y)

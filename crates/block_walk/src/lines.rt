@@ -1,0 +1,144 @@
+//! The lines in the blocks of a box.
+ghost use Rattle.std.specs.Prelude.{◌≡◌, ◌/◌, ◌<◌, ◌++◌, ◌∷◌, [], length, IfSome, All, OnOk, None};
+ghost use Rattle.map_geometry.specs.Level.{IsCellIn};
+ghost use Rattle.map_geometry.specs.Blocks.{block_list};
+ghost use Rattle.block_walk.specs.Near.{column_of, blocks_in, box_of, near};
+ghost use Rattle.block_walk.specs.Steps.{HasBits, IsClear, AreLines, AreWalked, Adds, Meets, itself};
+
+use crate::blocks::{Block, BlockBox, blocks_of, list_of};
+use crate::lists::Walked;
+use crate::marks::mark;
+use doom_edge::Memory;
+use map_geometry::{Area, Level};
+
+/// The word that ends a list.
+pub const END_MARK: u16 = 0xFFFF;
+
+/// Appends a line that was not met.
+#[inline]
+fn add_line(line: u16, met: &mut [u64], out: &mut Vec<u32>) -> Result<(), Memory>
+    requires { line / 64 < length met.old }
+    ensures { OnOk result (Adds itself met.old met.new out.old.items out.new.items (line ∷ [])) }
+{
+    if mark(met, line) {
+        out.push(u32::from(line))?;
+    }
+    Ok(())
+}
+
+/// Appends the lines of a list that were not met.
+fn add_list(level: &Level, place: u32, met: &mut [u64], out: &mut Vec<u32>) -> Result<(), Memory>
+    requires list { IsCellIn level.now place }
+    requires bits { HasBits level.now met.old }
+    ensures { OnOk result
+        (Adds itself met.old met.new out.old.items out.new.items (block_list level.now.words place)) }
+{
+    for at in place as usize..level.word_count() {
+        let word = level.word(at);
+        if word == END_MARK {
+            return Ok(());
+        }
+        add_line(word, met, out)?;
+    }
+    Ok(())
+}
+
+/// Appends the lines of a block that were not met, unless its list was walked.
+fn add_block(
+    level: &Level,
+    block: Block,
+    walked: &mut Walked,
+    met: &mut [u64],
+    out: &mut Vec<u32>,
+) -> Result<(), Memory>
+    requires bits { HasBits level.now met.old }
+    requires walked { AreWalked level.now met.old walked.old }
+    ensures { OnOk result
+        (Meets itself level.now walked.new met.old met.new out.old.items out.new.items (block ∷ [])) }
+{
+    let Some(place) = list_of(level, block) else {
+        return Ok(());
+    };
+    if walked.contains(place) {
+        return Ok(());
+    }
+    add_list(level, place, met, out)?;
+    walked.add(place);
+    Ok(())
+}
+
+/// Appends the lines of a part of a column that were not met.
+fn add_column(
+    level: &Level,
+    blocks: &BlockBox,
+    column: i32,
+    walked: &mut Walked,
+    met: &mut [u64],
+    out: &mut Vec<u32>,
+) -> Result<(), Memory>
+    requires bits { HasBits level.now met.old }
+    requires walked { AreWalked level.now met.old walked.old }
+    ensures { OnOk result
+        (Meets itself level.now walked.new met.old met.new out.old.items out.new.items
+        (column_of blocks.now.bottom blocks.now.top column)) }
+{
+    for row in blocks.bottom..=blocks.top {
+        add_block(level, Block { column, row }, walked, met, out)?;
+    }
+    Ok(())
+}
+
+/// Appends the lines of a box of blocks that were not met.
+fn add_box(
+    level: &Level,
+    blocks: &BlockBox,
+    walked: &mut Walked,
+    met: &mut [u64],
+    out: &mut Vec<u32>,
+) -> Result<(), Memory>
+    requires bits { HasBits level.now met.old }
+    requires walked { AreWalked level.now met.old walked.old }
+    ensures { OnOk result
+        (Meets itself level.now walked.new met.old met.new out.old.items out.new.items (blocks_in blocks.now)) }
+{
+    for column in blocks.left..=blocks.right {
+        add_column(level, blocks, column, walked, met, out)?;
+    }
+    Ok(())
+}
+
+/// Replaces `out` by the lines of a box of blocks.
+fn fill(level: &Level, blocks: &BlockBox, met: &mut [u64], out: &mut Vec<u32>) -> Result<(), Memory>
+    requires bits { HasBits level.now met.old }
+    requires clear { IsClear met.old }
+    ensures lines { OnOk result (out.new.items ≡ near level.now (blocks_in blocks.now)) }
+    ensures there { OnOk result (AreLines level.now out.new.items) }
+{
+    out.clear();
+    add_box(level, blocks, &mut Walked::new(), met, out)?;
+    Ok(())
+}
+
+/// As many lines as most levels have at most, and the words that have a bit for each.
+pub const FEW_LINES: usize = 4096;
+
+pub const FEW_WORDS: usize = 64;
+
+/// The words that have a bit for each line that a list can name.
+pub const ALL_WORDS: usize = 1024;
+
+/// Replaces `out` by the lines in the blocks that an area touches: the blocks' lists, column by column from the
+/// west and each column from the south, without later repeats. Nothing is said of `out` after `Memory`.
+pub fn lines_in(level: &Level, area: &Area, out: &mut Vec<u32>) -> Result<(), Memory>
+    ensures lines { OnOk result (out.new.items ≡ near level.now (blocks_in (box_of level.now area.now))) }
+    ensures there { OnOk result (All (λ line. line < length level.now.lines) out.new.items) }
+{
+    let blocks = blocks_of(level, area);
+    if level.line_count() <= FEW_LINES {
+        let mut met = [0; FEW_WORDS];
+        fill(level, &blocks, &mut met, out)
+    } else {
+        let mut met = [0; ALL_WORDS];
+        fill(level, &blocks, &mut met, out)
+    }
+}
