@@ -1,0 +1,30 @@
+//! Levels of sample maps, and worlds opened on them.
+ghost use Rattle.std.specs.Prelude.{IfOk};
+ghost use Rattle.play_tests.specs.Open.{IsOpen};
+
+use cow_world::World;
+use map_geometry::Level;
+use map_load::load;
+use sample_inputs::{MapPlan, wad};
+use std::alloc::Global;
+use std::test::Fail;
+use wad_lumps::Wad;
+
+/// The level of a map under the label `E1M1`.
+pub(crate) fn level_of(alloc: Global, plan: &MapPlan) -> Result<Level, Fail> {
+    let wad = Wad::read(wad(alloc, plan)?).map_err(|_| "the file is a WAD")?;
+    let spans = wad.map(alloc, 1, 1).map_err(|_| "the map is there")?;
+    let level = load(alloc, &wad, &spans).map_err(|_| "the level has no fault")?;
+    Ok(level)
+}
+
+/// The world of a level with two sectors, before anything was spawned.
+pub(crate) fn opened(alloc: Global, level: &Level) -> Result<World, Fail>
+    ensures { IfOk result (IsOpen level.now) }
+{
+    if level.sector_count() < 2 || level.line_count() == 0 {
+        return Err(Fail::from("the level has two sectors"));
+    }
+    let world = World::opening(alloc, level)?;
+    Ok(world)
+}

@@ -1,0 +1,9 @@
+//! Tests of the crates of play, over levels made from sample maps. No other crate stands on this one.
+#![tactic(auto)]
+
+#[cfg(test)]
+mod levels;
+#[cfg(test)]
+mod links;
+#[cfg(test)]
+mod worlds;
