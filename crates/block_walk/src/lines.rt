@@ -119,12 +119,17 @@ fn fill(level: &Level, blocks: &BlockBox, met: &mut [u64], out: &mut Vec<u32>) -
     Ok(())
 }
 
-/// As many lines as most levels have at most, and the words that have a bit for each.
+/// Words that have a bit for each line of a level of up to so many lines. Clearing them is a part of the cost of a
+/// walk, so small levels have few.
 pub const FEW_LINES: usize = 4096;
 
 pub const FEW_WORDS: usize = 64;
 
-/// The words that have a bit for each line that a list can name.
+pub const MANY_LINES: usize = 16384;
+
+pub const MANY_WORDS: usize = 256;
+
+/// Words that have a bit for each line that a list can name.
 pub const ALL_WORDS: usize = 1024;
 
 /// Replaces `out` by the lines in the blocks that an area touches: the blocks' lists, column by column from the
@@ -134,11 +139,12 @@ pub fn lines_in(level: &Level, area: &Area, out: &mut Vec<u32>) -> Result<(), Me
     ensures there { OnOk result (All (λ line. line < length level.now.lines) out.new.items) }
 {
     let blocks = blocks_of(level, area);
-    if level.line_count() <= FEW_LINES {
-        let mut met = [0; FEW_WORDS];
-        fill(level, &blocks, &mut met, out)
+    let lines = level.line_count();
+    if lines <= FEW_LINES {
+        fill(level, &blocks, &mut [0; FEW_WORDS], out)
+    } else if lines <= MANY_LINES {
+        fill(level, &blocks, &mut [0; MANY_WORDS], out)
     } else {
-        let mut met = [0; ALL_WORDS];
-        fill(level, &blocks, &mut met, out)
+        fill(level, &blocks, &mut [0; ALL_WORDS], out)
     }
 }

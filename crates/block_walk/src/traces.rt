@@ -9,7 +9,7 @@ ghost use Rattle.block_walk.specs.Traces.{off_border, way_of, walk_of, is_long, 
 
 use crate::blocks::{Block, list_of};
 use crate::fault::TraceFault;
-use crate::lines::{ALL_WORDS, END_MARK, FEW_LINES, FEW_WORDS};
+use crate::lines::{ALL_WORDS, END_MARK, FEW_LINES, FEW_WORDS, MANY_LINES, MANY_WORDS};
 use crate::lists::Walked;
 use crate::marks::mark;
 use crate::numbers::{difference, sum};
@@ -289,12 +289,13 @@ fn collect_all(
     ensures many { IsErrOf result TraceFault.Intercepts
         → 128 < length (crossed level.now way.now (near level.now (visited 64 walk))) }
 {
-    if level.line_count() <= FEW_LINES {
-        let mut met = [0; FEW_WORDS];
-        collect(level, way, walk, &mut met, out)
+    let lines = level.line_count();
+    if lines <= FEW_LINES {
+        collect(level, way, walk, &mut [0; FEW_WORDS], out)
+    } else if lines <= MANY_LINES {
+        collect(level, way, walk, &mut [0; MANY_WORDS], out)
     } else {
-        let mut met = [0; ALL_WORDS];
-        collect(level, way, walk, &mut met, out)
+        collect(level, way, walk, &mut [0; ALL_WORDS], out)
     }
 }
 
