@@ -19,7 +19,7 @@ use doom_edge::{Gate, Shelf, Sink, Steps};
 use std::alloc::Global;
 
 /// Carries out the command that the words ask for: takes its inputs in the order of the words, puts the demo that they
-/// come to, and pushes the report, or the line of a refusal in its place.
+/// come to, where there is one, and pushes the report, or the line of a refusal in its place.
 #[tactic(auto, using(crate::proofs::EndLemmas::ends_answers))]
 pub fn run<S: Shelf, N: Sink, G: Gate + Sync>(
     alloc: Global,

@@ -1,11 +1,11 @@
+mod level;
+
 use crate::{Status, Words, run};
 use doom_edge::{MemShelf, MemSink, NoGate, Steps};
+use sample_inputs::HEADER;
 use std::alloc::{AllocError, Global};
 use std::process::Abort;
 use std::test::Fail;
-
-/// Version 109, skill 2, episode 1, map 1, no monsters, the first player alone.
-const HEADER: [u8; 13] = [109, 2, 1, 1, 0, 0, 0, 1, 0, 1, 0, 0, 0];
 
 /// The words of an edit.
 const EDIT: [&str; 4] = ["edit", "in.lmp", "script", "out.lmp"];
@@ -48,23 +48,23 @@ fn with_header(alloc: Global, behind: &[u8]) -> Result<Vec<u8>, AllocError> {
     Ok(bytes)
 }
 
-/// Runs the words over a demo and a script in memory.
-fn ran(
+/// Runs the words over files in memory, each given by its name and its bytes.
+fn ran_over(
     alloc: Global,
     words: &[&str],
-    demo: &[u8],
-    script: &[u8],
+    files: &[(&str, &[u8])],
     failing: Failing,
 ) -> Result<Left, Fail> {
     let mut list = Words::new(alloc);
     for word in words {
         list.push(word)?;
     }
-    let mut files = Vec::new(alloc);
-    files.push((String::from_str(alloc, "in.lmp")?, demo.to_vec(alloc)?))?;
-    files.push((String::from_str(alloc, "script")?, script.to_vec(alloc)?))?;
+    let mut held = Vec::new(alloc);
+    for (name, bytes) in files {
+        held.push((String::from_str(alloc, name)?, bytes.to_vec(alloc)?))?;
+    }
     let mut shelf = MemShelf::new(
-        files,
+        held,
         failing.takes.to_vec(alloc)?,
         failing.puts.to_vec(alloc)?,
     );
@@ -76,6 +76,22 @@ fn ran(
         shelf,
         note,
     })
+}
+
+/// Runs the words over a demo and a script.
+fn ran(
+    alloc: Global,
+    words: &[&str],
+    demo: &[u8],
+    script: &[u8],
+    failing: Failing,
+) -> Result<Left, Fail> {
+    ran_over(
+        alloc,
+        words,
+        &[("in.lmp", demo), ("script", script)],
+        failing,
+    )
 }
 
 /// A table of scripts: what stands behind the demo's header, the script, and what stands behind the new demo's header.
@@ -376,6 +392,8 @@ fn other_words_touch_nothing(rt: HostRuntime) -> Result<(), Fail> {
             &["edit", "in.lmp", "script"],
             &["edit", "in.lmp", "script", "out.lmp", "more"],
             &["Edit", "in.lmp", "script", "out.lmp"],
+            &["level", "maps.wad", "play.ptab"],
+            &["level", "maps.wad", "play.ptab", "in.lmp", "more"],
             &["", "in.lmp", "script", "out.lmp"],
         ],
     )
