@@ -187,5 +187,5 @@ leads_many keep kept old met before out all part rest most leads many =
     let both = kept.append (fresh (is_marked met) part) (fresh (λ n. is_marked met n || has part n) rest) in
     let split = fresh-append (is_marked met) part rest in
     let end' : before ++ keep (fresh (is_marked old) all) ≡ (out ++ keep (fresh (is_marked met) part)) ++ keep (fresh (λ n. is_marked met n || has part n) rest) =
-        sym leads.same ∙ (ap (λ zs. out ++ zs) (ap keep split ∙ both) ∙ sym (append_assoc out (keep (fresh (is_marked met) part)) (keep (fresh (λ n. is_marked met n || has part n) rest)))) in
+    sym leads.same ∙ (ap (λ zs. out ++ zs) (ap keep split ∙ both) ∙ sym (append_assoc out (keep (fresh (is_marked met) part)) (keep (fresh (λ n. is_marked met n || has part n) rest)))) in
     rw (end', length-append (out ++ keep (fresh (is_marked met) part)) (keep (fresh (λ n. is_marked met n || has part n) rest))) (omega arith)

@@ -16,3 +16,6 @@ pub use fault::TraceFault;
 pub use lines::lines_in;
 pub use places::subsector_at;
 pub use traces::trace;
+
+#[cfg(test)]
+mod tests;

@@ -27,12 +27,7 @@ fn add_line(line: u16, met: &mut [u64], out: &mut Vec<u32>) -> Result<(), Memory
 }
 
 /// Appends the lines of a list that were not met.
-fn add_list(
-    level: &Level,
-    place: u32,
-    met: &mut [u64],
-    out: &mut Vec<u32>,
-) -> Result<(), Memory>
+fn add_list(level: &Level, place: u32, met: &mut [u64], out: &mut Vec<u32>) -> Result<(), Memory>
     requires list { IsCellIn level.now place }
     requires bits { HasBits level.now met.old }
     ensures { OnOk result
@@ -113,12 +108,7 @@ fn add_box(
 }
 
 /// Replaces `out` by the lines of a box of blocks.
-fn fill(
-    level: &Level,
-    blocks: &BlockBox,
-    met: &mut [u64],
-    out: &mut Vec<u32>,
-) -> Result<(), Memory>
+fn fill(level: &Level, blocks: &BlockBox, met: &mut [u64], out: &mut Vec<u32>) -> Result<(), Memory>
     requires bits { HasBits level.now met.old }
     requires clear { IsClear met.old }
     ensures lines { OnOk result (out.new.items ≡ near level.now (blocks_in blocks.now)) }

@@ -54,7 +54,10 @@ impl Places {
 
     /// A number below 2^16.
     fn number(&mut self) -> u32 {
-        self.seed = self.seed.wrapping_mul(1_664_525).wrapping_add(1_013_904_223);
+        self.seed = self
+            .seed
+            .wrapping_mul(1_664_525)
+            .wrapping_add(1_013_904_223);
         self.seed / 65536
     }
 
@@ -144,8 +147,12 @@ impl Call {
         match self {
             Call::LineSide => Ok(line_sides(level, count)),
             Call::SubsectorAt => Ok(subsectors(level, count)),
-            Call::LinesIn => boxes(alloc, level, count).map_err(|fault| anyhow::anyhow!("{fault:?}")),
-            Call::Trace => traces(alloc, level, count).map_err(|fault| anyhow::anyhow!("{fault:?}")),
+            Call::LinesIn => boxes(alloc, level, count).map_err(|fault| anyhow::anyhow!(
+                "{fault:?}"
+            )),
+            Call::Trace => traces(alloc, level, count).map_err(|fault| anyhow::anyhow!(
+                "{fault:?}"
+            )),
         }
     }
 }

@@ -76,7 +76,11 @@ fn run<R: Print + CpuClock + Env + Files + AllocGlobal>(rt: &R) -> anyhow::Resul
             let bytes = fs::read(rt, wad.as_str())?;
             let episode = episode.parse::<u8>().context("the episode")?;
             let map = map.parse::<u8>().context("the map")?;
-            time_calls(rt, wad.as_str(), &maps::level_of(rt.alloc(), bytes, episode, map)?)?;
+            time_calls(
+                rt,
+                wad.as_str(),
+                &maps::level_of(rt.alloc(), bytes, episode, map)?,
+            )?;
         }
         _ => bail!("walk_speed [time [WAD EPISODE MAP]]"),
     }
