@@ -5,17 +5,23 @@ ghost use Rattle.play_tests.specs.Open.{IsOpen};
 use cow_world::World;
 use map_geometry::Level;
 use map_load::load;
-use sample_inputs::{MapPlan, wad};
+use sample_inputs::{MapPlan, two_sectors, wad};
 use std::alloc::Global;
 use std::test::Fail;
 use wad_lumps::Wad;
 
 /// The level of a map under the label `E1M1`.
-pub(crate) fn level_of(alloc: Global, plan: &MapPlan) -> Result<Level, Fail> {
+fn level_of(alloc: Global, plan: &MapPlan) -> Result<Level, Fail> {
     let wad = Wad::read(wad(alloc, plan)?).map_err(|_| "the file is a WAD")?;
     let spans = wad.map(alloc, 1, 1).map_err(|_| "the map is there")?;
     let level = load(alloc, &wad, &spans).map_err(|_| "the level has no fault")?;
     Ok(level)
+}
+
+/// The level of two sectors that meet at x = 48.
+pub(crate) fn sample(alloc: Global) -> Result<Level, Fail> {
+    let plan = two_sectors(alloc, 48, (0, 128, 0), (24, 96, 0), 88, 1)?;
+    level_of(alloc, &plan)
 }
 
 /// The world of a level with two sectors, before anything was spawned.

@@ -2,11 +2,10 @@
 ghost use Rattle.std.specs.Prelude.{OnOk};
 ghost use Rattle.play_tests.specs.Open.{IsOpen};
 
-use crate::levels::{level_of, opened};
+use crate::levels::{opened, sample};
 use cow_world::{Thing, World};
 use doom_edge::{Memory, Steps};
 use map_geometry::Level;
-use sample_inputs::two_sectors;
 use std::alloc::Global;
 use std::process::Abort;
 use std::test::Fail;
@@ -120,36 +119,64 @@ fn compare(
     Ok(())
 }
 
-// A hundred links of ten things, in a world and in a fork of it.
-#[test]
-fn hundred_links(rt: HostRuntime) -> Result<(), Fail> {
-    let alloc = rt.alloc();
-    let plan = two_sectors(alloc, 48, (0, 128, 0), (24, 96, 0), 88, 1)?;
-    let level = level_of(alloc, &plan)?;
-    let mut world = opened(alloc, &level)?;
-    let mut steps = Steps::new();
-    spawn(&level, &mut world, &mut steps)?;
+/// Links things a hundred times, and gives the plain list of them.
+fn link_hundred(
+    alloc: Global,
+    level: &Level,
+    world: &mut World,
+    steps: &mut Steps,
+) -> Result<Vec<Link>, Fail>
+    requires { IsOpen level.now world.old }
+    ensures { OnOk result (IsOpen level.now world.new) }
+{
     let mut list = Vec::new(alloc);
     for number in 0..100 {
         let next = Link::numbered(number);
-        relink(&level, &mut world, next, &mut steps)?;
+        relink(level, world, next, steps)?;
         list_first(&mut list, next)?;
     }
-    let fork = world.fork(&mut steps)?;
-    compare(&rt, alloc, &level, &world, &list)?;
+    Ok(list)
+}
+
+/// A fork keeps its order where the origin is linked anew.
+fn fork_apart(
+    rt: &impl Abort,
+    alloc: Global,
+    level: &Level,
+    world: &mut World,
+    list: &[Link],
+    steps: &mut Steps,
+) -> Result<(), Fail>
+    requires { IsOpen level.now world.old }
+{
+    let fork = world.fork(steps)?;
     relink(
-        &level,
-        &mut world,
+        level,
+        world,
         Link {
             thing: 0,
             x: 0,
             y: 0,
         },
-        &mut steps,
+        steps,
     )?;
-    compare(&rt, alloc, &level, &fork, &list)?;
-    assert_eq!(rt; list.len(), 10);
-    Ok(())
+    compare(rt, alloc, level, &fork, list)
+}
+
+/// A hundred links of ten things, in a world and in a fork of it.
+fn try_hundred(rt: &impl Abort, alloc: Global, level: &Level) -> Result<(), Fail> {
+    let mut world = opened(alloc, level)?;
+    let mut steps = Steps::new();
+    spawn(level, &mut world, &mut steps)?;
+    let list = link_hundred(alloc, level, &mut world, &mut steps)?;
+    compare(rt, alloc, level, &world, &list)?;
+    fork_apart(rt, alloc, level, &mut world, &list, &mut steps)
+}
+
+#[test]
+fn hundred_links(rt: HostRuntime) -> Result<(), Fail> {
+    let level = sample(rt.alloc())?;
+    try_hundred(&rt, rt.alloc(), &level)
 }
 
 /// The block in which thing 0 is linked, if there is one.
@@ -199,22 +226,30 @@ const BORDERS: [(i32, i32, Option<(i32, i32)>); 11] = [
     (i32::MAX, 0, None),
 ];
 
+/// Links thing 0 at each of those places, and looks where it stands then.
+fn try_borders(
+    rt: &impl Abort,
+    alloc: Global,
+    level: &Level,
+    world: &mut World,
+    steps: &mut Steps,
+) -> Result<(), Fail>
+    requires { IsOpen level.now world.old }
+{
+    for (x, y, block) in BORDERS {
+        relink(level, world, Link { thing: 0, x, y }, steps)?;
+        let found = block_of_first(alloc, level, world)?;
+        assert_eq!(rt; found, block, "at {x}, {y}");
+    }
+    Ok(())
+}
+
 // A thing on the border of a block and outside the grid, where a place so far off that its way wraps is outside too.
 #[test]
 fn borders_of_blocks(rt: HostRuntime) -> Result<(), Fail> {
-    let alloc = rt.alloc();
-    let plan = two_sectors(alloc, 48, (0, 128, 0), (24, 96, 0), 88, 1)?;
-    let level = level_of(alloc, &plan)?;
-    let mut world = opened(alloc, &level)?;
+    let level = sample(rt.alloc())?;
+    let mut world = opened(rt.alloc(), &level)?;
     let mut steps = Steps::new();
     spawn(&level, &mut world, &mut steps)?;
-    for (x, y, block) in BORDERS {
-        relink(&level, &mut world, Link { thing: 0, x, y }, &mut steps)?;
-        assert_eq!(rt;
-            block_of_first(alloc, &level, &world)?,
-            block,
-            "at {x}, {y}"
-        );
-    }
-    Ok(())
+    try_borders(&rt, rt.alloc(), &level, &mut world, &mut steps)
 }

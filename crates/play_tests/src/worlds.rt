@@ -1,12 +1,14 @@
 //! The world: what readers give after each writer, forks and halts.
+ghost use Rattle.std.specs.Prelude.{◌≡◌};
 ghost use Rattle.play_tests.specs.Open.{IsOpen};
 
-use crate::levels::{level_of, opened};
+use crate::levels::{opened, sample};
 use cow_world::{DoorKind, DoorPhase, Player, Sector, Thing, Thinker, World};
 use doom_edge::{Memory, Steps};
 use game_trait::Halt;
 use map_geometry::Level;
-use sample_inputs::two_sectors;
+use std::alloc::Global;
+use std::process::Abort;
 use std::test::Fail;
 
 const UNIT: i32 = 65536;
@@ -196,40 +198,57 @@ const EAST: Sector = Sector {
     mover: None,
 };
 
-// Each writer on a fork of one world, which stays as it was opened.
-#[test]
-fn each_writer_on_a_fork(rt: HostRuntime) -> Result<(), Fail> {
-    let alloc = rt.alloc();
-    let plan = two_sectors(alloc, 48, (0, 128, 0), (24, 96, 0), 88, 1)?;
-    let level = level_of(alloc, &plan)?;
-    let mut world = opened(alloc, &level)?;
+/// Tries a writer on a fork of the world.
+fn try_writer(
+    rt: &impl Abort,
+    level: &Level,
+    world: &mut World,
+    writer: Writer,
+    steps: &mut Steps,
+) -> Result<(), Fail>
+    requires { IsOpen level.now world.old }
+    ensures { world.new ≡ world.old }
+{
+    let mut fork = world.fork(steps)?;
+    let read = is_read(level, &mut fork, writer, steps)?;
+    assert!(rt; read, "{writer:?}");
+    Ok(())
+}
+
+/// Each writer on a fork of one world, which stays as it was opened.
+fn try_writers(rt: &impl Abort, alloc: Global, level: &Level) -> Result<(), Fail> {
+    let mut world = opened(alloc, level)?;
     let mut steps = Steps::new();
     for writer in WRITERS {
-        let mut fork = world.fork(&mut steps)?;
-        assert!(rt;
-            is_read(&level, &mut fork, writer, &mut steps)?,
-            "{writer:?}"
-        );
+        try_writer(rt, level, &mut world, writer, &mut steps)?;
     }
     assert_eq!(rt; world.sector(1), EAST);
     Ok(())
 }
 
-// A halt, forks of what halted, and the page steps that each takes.
+#[test]
+fn each_writer_on_a_fork(rt: HostRuntime) -> Result<(), Fail> {
+    let level = sample(rt.alloc())?;
+    try_writers(&rt, rt.alloc(), &level)
+}
+
+/// A halt of a fork, and a fork of what halted.
+fn halt_a_fork(rt: &impl Abort, world: &mut World, steps: &mut Steps) -> Result<(), Fail> {
+    let mut fork = world.fork(steps)?;
+    fork.set_halted(7, Halt::Special(39));
+    let again = fork.fork(steps)?;
+    assert_eq!(rt; again.halted(), Some((7, Halt::Special(39))));
+    Ok(())
+}
+
+// A halt leaves the origin, and takes no page steps more: a page of sectors and one of line specials were named.
 #[test]
 fn halts_and_forks(rt: HostRuntime) -> Result<(), Fail> {
-    let alloc = rt.alloc();
-    let plan = two_sectors(alloc, 48, (0, 128, 0), (24, 96, 0), 88, 1)?;
-    let level = level_of(alloc, &plan)?;
-    let mut world = opened(alloc, &level)?;
+    let level = sample(rt.alloc())?;
+    let mut world = opened(rt.alloc(), &level)?;
     let mut steps = Steps::new();
-    let mut fork = world.fork(&mut steps)?;
-    assert_eq!(rt; steps.pages(), 2);
-    fork.set_halted(7, Halt::Special(39));
-    assert_eq!(rt; fork.halted(), Some((7, Halt::Special(39))));
+    halt_a_fork(&rt, &mut world, &mut steps)?;
     assert_eq!(rt; world.halted(), None);
-    let again = fork.fork(&mut steps)?;
-    assert_eq!(rt; again.halted(), Some((7, Halt::Special(39))));
     assert_eq!(rt; steps.pages(), 2);
     Ok(())
 }
