@@ -70,11 +70,19 @@ fn area((left, right, bottom, top): (i16, i16, i16, i16)) -> Area {
     }
 }
 
+/// The side of the room's third line on which its middle is, where there is such a line.
+fn side_of_east_wall(room: &Level) -> Option<u32> {
+    if room.line_count() < 3 {
+        return None;
+    }
+    Some(line_side(&room.line(2), 0, 0))
+}
+
 #[test]
 fn subsectors(rt: HostRuntime) -> Result<(), Fail> {
     let alloc = rt.alloc();
     let room = level(alloc, &single_room(alloc)?)?;
-    assert_eq!(rt; line_side(&room.line(2), 0, 0), 0);
+    assert_eq!(rt; side_of_east_wall(&room), Some(0));
     assert_eq!(rt; subsector_at(&room, 0, 0), 0);
     let strip = level(
         alloc,
