@@ -78,6 +78,11 @@ fn side_of_east_wall(room: &Level) -> Option<u32> {
     Some(line_side(&room.line(2), 0, 0))
 }
 
+/// The subsector of a place in map units.
+fn subsector_of(level: &Level, x: i16, y: i16) -> u32 {
+    subsector_at(level, i32::from(x) * U, i32::from(y) * U)
+}
+
 #[test]
 fn subsectors(rt: HostRuntime) -> Result<(), Fail> {
     let alloc = rt.alloc();
@@ -110,8 +115,8 @@ fn subsectors(rt: HostRuntime) -> Result<(), Fail> {
         (-5, 3, 0, 2),
         (0, -9, 0, 2),
     ] {
-        assert_eq!(rt; subsector_at(&strip, x * U, y * U), in_strip, "({x}, {y})");
-        assert_eq!(rt; subsector_at(&cut, x * U, y * U), in_cut, "({x}, {y})");
+        assert_eq!(rt; subsector_of(&strip, x, y), in_strip, "({x}, {y})");
+        assert_eq!(rt; subsector_of(&cut, x, y), in_cut, "({x}, {y})");
     }
     Ok(())
 }
