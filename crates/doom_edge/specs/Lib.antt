@@ -1,4 +1,5 @@
 pub mod Calls
+pub mod Costs
 pub mod Counts
 pub mod Devices
 pub mod FileShelf

@@ -2,10 +2,14 @@
 ghost use Rattle.std.specs.Prelude.{◌≡◌, ◌≤◌, None, OnOk, vec_len};
 
 use crate::counts::add_fault;
+use crate::interrupts::read_some;
+use crate::reason::failure_of;
 use crate::save::save;
+use crate::save_file::SaveFile;
 use crate::shelf::{PutFault, Shelf, TakeFault};
-use std::io::{ErrorKind, Read};
+use std::io::{Error, ErrorKind};
 use std::marker::Model;
+use std::random::RandomSource;
 use std::rt::Files;
 use std::{fs, io};
 
@@ -18,6 +22,8 @@ pub struct FileShelf<R> {
     files: R,
     take_faults: u64,
     put_faults: u64,
+    has_put: bool,
+    failure: String,
 }
 
 impl<R> Model for FileShelf<R> {
@@ -33,15 +39,34 @@ impl<R: Files + AllocGlobal> FileShelf<R> {
     pub fn new(files: R) -> FileShelf<R>
         ensures { result ≡ record { takes = 0; puts = 0 } }
     {
+        let failure = String::new(files.alloc());
         FileShelf {
             files,
             take_faults: 0,
             put_faults: 0,
+            has_put: false,
+            failure,
         }
     }
 }
 
-impl<R: Files + AllocGlobal> Shelf for FileShelf<R> {
+impl<R> FileShelf<R> {
+    /// What failed last, as `cannot read NAME: REASON` with the system's reason; empty where nothing did, or where there
+    /// was no memory for it.
+    pub fn failure(&self) -> &str {
+        self.failure.as_str()
+    }
+
+    /// Whether a file was put.
+    pub fn has_put(&self) -> bool {
+        self.has_put
+    }
+}
+
+impl<R: Files + AllocGlobal + RandomSource> Shelf for FileShelf<R>
+where
+    R::File: SaveFile,
+{
     ghost holds = { λ _. None };
 
     ghost take_faults = { λ shelf. shelf.takes };
@@ -51,57 +76,51 @@ impl<R: Files + AllocGlobal> Shelf for FileShelf<R> {
     ghost sure = { λ _. ⊥ };
 
     fn take(&mut self, name: &str, most: usize, into: &mut Vec<u8>) -> Result<(), TakeFault> {
-        let read = read_file(&self.files, name, most, into);
-        if read == Err(TakeFault::Failed) {
-            self.take_faults = add_fault(self.take_faults);
+        match read_file(&self.files, name, most, into) {
+            Ok(()) => Ok(()),
+            Err(error) if is_memory(&error) => Err(TakeFault::Memory),
+            Err(error) => {
+                self.take_faults = add_fault(self.take_faults);
+                self.failure = failure_of(self.files.alloc(), "read", name, &error);
+                Err(TakeFault::Failed)
+            }
         }
-        read
     }
 
     fn put(&mut self, name: &str, bytes: &[u8]) -> Result<(), PutFault> {
-        let saved = save_file(&self.files, name, bytes);
-        if saved == Err(PutFault::Failed) {
-            self.put_faults = add_fault(self.put_faults);
+        match save(&self.files, name, bytes) {
+            Ok(()) => {
+                self.has_put = true;
+                Ok(())
+            }
+            Err(error) if is_memory(&error) => Err(PutFault::Memory),
+            Err(error) => {
+                self.put_faults = add_fault(self.put_faults);
+                self.failure = failure_of(self.files.alloc(), "write", name, &error);
+                Err(PutFault::Failed)
+            }
         }
-        saved
     }
 }
 
+fn is_memory(error: &Error) -> bool {
+    error.kind() == ErrorKind::OutOfMemory
+}
+
 // Puts the first `most` bytes of a file in place of what was in `into`.
-fn read_file<R: Files>(
-    files: &R,
-    name: &str,
-    most: usize,
-    into: &mut Vec<u8>,
-) -> Result<(), TakeFault>
+fn read_file<R: Files>(files: &R, name: &str, most: usize, into: &mut Vec<u8>) -> io::Result<()>
     ensures { OnOk result (vec_len into.new ≤ most) }
 {
-    let Ok(mut file) = fs::open(files, name) else {
-        return Err(TakeFault::Failed);
-    };
+    let mut file = fs::open(files, name)?;
     into.clear();
     for _ in 0..u64::MAX {
         let mut buffer = [0; READ_LEN];
         let room = READ_LEN.min(most - into.len());
-        let read = file.read(&mut buffer[..room]);
-        match read {
-            Ok(0) => return Ok(()),
-            Ok(len) => into.extend_from_slice(&buffer[..len])?,
-            Err(error) if error.kind() == ErrorKind::Interrupted => {}
-            Err(_) => return Err(TakeFault::Failed),
+        let len = read_some(&mut file, &mut buffer[..room])?;
+        if len == 0 {
+            return Ok(());
         }
+        into.extend_from_slice(&buffer[..len])?;
     }
-    Err(TakeFault::Failed)
-}
-
-fn save_file<R: Files + AllocGlobal>(files: &R, name: &str, bytes: &[u8]) -> Result<(), PutFault> {
-    save(files, name, bytes).map_err(put_fault)
-}
-
-fn put_fault(error: io::Error) -> PutFault {
-    if error.kind() == ErrorKind::OutOfMemory {
-        PutFault::Memory
-    } else {
-        PutFault::Failed
-    }
+    Err(Error::from(ErrorKind::Other))
 }

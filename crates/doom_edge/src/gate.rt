@@ -1,9 +1,14 @@
 // A place that the workers of a search pass.
 
-/// What each worker calls after each claim and before the first try of the claimed block. It gives nothing
-/// back, so it can change no answer: a test holds workers up with it, to see that there is more than one.
+/// What a search tells of its course while it runs. Neither call gives anything back, so neither can change an
+/// answer: a test holds workers up with `at`, to see that there is more than one, and the program may show with
+/// both how far a search has come.
 pub trait Gate {
-    /// Worker `worker` is about to try block `block`. Both are counted from 0.
+    /// A search of `count` sequences is about to start its workers.
+    fn begin(&self, count: u64);
+
+    /// Worker `worker` is about to try block `block`, after its claim and before the block's first try. Both are
+    /// counted from 0.
     fn at(&self, worker: u32, block: u64);
 }
 
@@ -12,5 +17,7 @@ pub trait Gate {
 pub struct NoGate;
 
 impl Gate for NoGate {
+    fn begin(&self, _count: u64) {}
+
     fn at(&self, _worker: u32, _block: u64) {}
 }

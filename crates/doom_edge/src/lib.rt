@@ -6,15 +6,20 @@ mod calls;
 mod counts;
 mod file_shelf;
 mod gate;
+mod interrupts;
 mod mem_shelf;
 mod mem_sink;
 mod memory;
 mod out_sink;
+mod reason;
 mod save;
+mod save_file;
 mod shelf;
 mod sink;
 mod steps;
 mod sure_sink;
+mod target;
+mod threads;
 
 pub use file_shelf::FileShelf;
 pub use gate::{Gate, NoGate};
@@ -22,10 +27,9 @@ pub use mem_shelf::MemShelf;
 pub use mem_sink::MemSink;
 pub use memory::Memory;
 pub use out_sink::OutSink;
+pub use save_file::SaveFile;
 pub use shelf::{PutFault, Shelf, TakeFault};
 pub use sink::{PushFault, Sink};
 pub use steps::Steps;
 pub use sure_sink::SureSink;
-
-#[cfg(test)]
-mod tests;
+pub use threads::moves_between_threads;

@@ -2,9 +2,12 @@
 ghost use Rattle.std.specs.Prelude.{◌≡◌, None};
 
 use crate::counts::add_fault;
+use crate::interrupts::write_whole;
+use crate::reason::failure_of;
 use crate::sink::{PushFault, Sink};
+use std::alloc::Global;
 use std::io;
-use std::io::Write;
+use std::io::Error;
 use std::marker::Model;
 
 /// Standard output.
@@ -12,6 +15,7 @@ use std::marker::Model;
 pub struct OutSink<P> {
     output: P,
     faults: u64,
+    failure: Option<Error>,
 }
 
 impl<P> Model for OutSink<P> {
@@ -27,7 +31,20 @@ impl<P: Print> OutSink<P> {
     pub fn new(output: P) -> OutSink<P>
         ensures { result ≡ 0 }
     {
-        OutSink { output, faults: 0 }
+        OutSink {
+            output,
+            faults: 0,
+            failure: None,
+        }
+    }
+
+    /// What failed last, as `cannot write WHAT: REASON` with the system's reason; empty where nothing did, or where there
+    /// is no memory for it.
+    pub fn failure(&self, alloc: Global, what: &str) -> String {
+        match &self.failure {
+            Some(error) => failure_of(alloc, "write", what, error),
+            None => String::new(alloc),
+        }
     }
 }
 
@@ -39,18 +56,14 @@ impl<P: Print> Sink for OutSink<P> {
     ghost sure = { λ _. ⊥ };
 
     fn push(&mut self, bytes: &[u8]) -> Result<(), PushFault> {
-        let printed = print_all(&self.output, bytes);
-        if printed.is_err() {
-            self.faults = add_fault(self.faults);
+        let mut output = io::writer(&self.output);
+        match write_whole(&mut output, bytes) {
+            Ok(()) => Ok(()),
+            Err(error) => {
+                self.faults = add_fault(self.faults);
+                self.failure = Some(error);
+                Err(PushFault::Failed)
+            }
         }
-        printed
-    }
-}
-
-fn print_all<P: Print>(output: &P, bytes: &[u8]) -> Result<(), PushFault> {
-    let mut output = io::writer(output);
-    match output.write_all(bytes) {
-        Ok(()) => Ok(()),
-        Err(_) => Err(PushFault::Failed),
     }
 }

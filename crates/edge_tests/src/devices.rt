@@ -1,5 +1,5 @@
 // The devices in memory, call by call, and the counter.
-use crate::{
+use doom_edge::{
     Gate, MemShelf, MemSink, NoGate, PushFault, PutFault, Shelf, Sink, Steps, SureSink, TakeFault,
 };
 use std::alloc::Global;
@@ -108,5 +108,6 @@ fn steps_are_counted(rt: HostRuntime) {
     more.add(steps);
     assert_eq!(rt; more.tics(), 2);
     assert_eq!(rt; more.pages(), 2);
+    NoGate.begin(7);
     NoGate.at(0, 7);
 }

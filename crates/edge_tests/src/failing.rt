@@ -1,19 +1,30 @@
 // The runtime's files, of which one step of a save fails.
+use doom_edge::SaveFile;
 use std::alloc::{Alloc, Allocator, Global};
-use std::fs::{File, Files, Metadata, OpenFile, OpenOptions, Permissions};
+use std::fs::{File, Files, Metadata, OpenFile, OpenOptions};
 use std::io;
-use std::io::{ErrorKind, Read, Seek, SeekFrom, Write};
+use std::io::{Error, ErrorKind, Read, Seek, SeekFrom, Write};
 use std::path::PathBuf;
+use std::random::RandomSource;
 
 #[derive(Clone, Copy, Debug, PartialEq, Eq)]
 pub enum Step {
+    OpenFolder,
     Create,
-    Permit,
     // The first piece is written, and then the disk is full.
     Write,
     // A write takes no byte.
     Stall,
+    // The owner and the group can't be set.
+    Give,
+    Permit,
     Sync,
+    // The system knows of no sync.
+    Unsupported,
+    // A signal interrupts each sync.
+    Interrupt,
+    // The temporary file's name leads to another file.
+    Exchange,
     Rename,
     Nothing,
 }
@@ -36,13 +47,24 @@ impl Alloc for FailingFiles<'_> {
     }
 }
 
+impl RandomSource for FailingFiles<'_> {
+    fn fill_bytes(&self, buf: &mut [u8]) -> io::Result<()> {
+        self.files.fill_bytes(buf)
+    }
+}
+
 impl Files for FailingFiles<'_> {
     type File = FailingFile;
 
     type Dir = <HostRuntime as Files>::Dir;
 
     fn open_file(&self, how: &OpenOptions, path: &str) -> io::Result<FailingFile> {
-        if how.asks_create_new() && self.fails == Step::Create {
+        let fails = match self.fails {
+            Step::Create => how.asks_create_new(),
+            Step::OpenFolder => how.asks_read(),
+            _ => false,
+        };
+        if fails {
             return Err(broken());
         }
         let file = self.files.open_file(how, path)?;
@@ -62,7 +84,9 @@ impl Files for FailingFiles<'_> {
     }
 
     fn symlink_metadata(&self, path: &str) -> io::Result<Metadata> {
-        self.files.symlink_metadata(path)
+        let exchanged = self.fails == Step::Exchange && path.contains(".dsda_build-");
+        self.files
+            .symlink_metadata(if exchanged { "/" } else { path })
     }
 
     fn copy(&self, from: &str, to: &str) -> io::Result<u64> {
@@ -145,20 +169,42 @@ impl OpenFile for FailingFile {
     }
 
     fn sync_all(&self) -> io::Result<()> {
-        if self.fails == Step::Sync {
-            return Err(broken());
-        }
         self.file.sync_all()
     }
 
     fn sync_data(&self) -> io::Result<()> {
         self.file.sync_data()
     }
+}
 
-    fn set_permissions(&self, perm: Permissions) -> io::Result<()> {
+impl SaveFile for FailingFile {
+    fn sync(&self) -> io::Result<()> {
+        match self.fails {
+            Step::Sync => Err(broken()),
+            Step::Unsupported => Err(Error::from(ErrorKind::InvalidInput)),
+            Step::Interrupt => Err(Error::from(ErrorKind::Interrupted)),
+            _ => self.file.sync(),
+        }
+    }
+
+    fn permit(&self, mode: u32) -> io::Result<()> {
         if self.fails == Step::Permit {
             return Err(broken());
         }
-        self.file.set_permissions(perm)
+        self.file.permit(mode)
+    }
+
+    fn give(&self, owner: u32) -> io::Result<()> {
+        if self.fails == Step::Give {
+            return Err(broken());
+        }
+        self.file.give(owner)
+    }
+
+    fn share(&self, group: u32) -> io::Result<()> {
+        if self.fails == Step::Give {
+            return Err(broken());
+        }
+        self.file.share(group)
     }
 }
