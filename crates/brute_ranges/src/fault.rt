@@ -6,7 +6,8 @@
 pub enum SpaceFault {
     /// There are this many tics, and not 1 to 35.
     Depth(usize),
-    /// A range of this tic reaches beyond what a tic can hold, or its turn range has more than 256 numbers.
+    /// A range of this tic reaches beyond what a tic can hold, or its turn range has more numbers
+    /// than a circle has turns: 256, and 65,536 in a long demo.
     Bounds(usize),
     /// A range of this tic has its low above its high.
     EmptyRange(usize),

@@ -1,9 +1,9 @@
 //! A space of sequences, with the radix and the place value of each tic.
 
-ghost use Rattle.std.specs.Prelude.{◌≡◌, ℕ, ◌+◌, ◌-◌, ◌*◌, ◌/◌, ◌%◌, ◌^◌, ◌<◌, ◌≤◌, ◌++◌, List, ◌∷◌, length, take, drop, All, IfOk, IfErr, OnOk, Some, slice_get, slice_index_or};
-ghost use Rattle.brute_ranges.specs.Tics.{tics_of, tic_count, IsSound};
-ghost use Rattle.brute_ranges.specs.Space.{all_sequences, sequence_at, IsDeep, IsSpace, IsFault, SharesExactly};
-ghost use Rattle.brute_ranges.specs.Wheels.{ranges_of, AreWheels};
+ghost use Rattle.std.specs.Prelude.{◌≡◌, ℕ, ◌^◌, ◌<◌, ◌≤◌, ◌++◌, ◌∷◌, length, take, drop, All, IfOk, IfErr, OnOk, Some, slice_get};
+ghost use Rattle.brute_ranges.specs.Tics.{IsSound};
+ghost use Rattle.brute_ranges.specs.Space.{ranges_with, all_sequences, sequence_at, shared_front, IsDeep, IsSpace, IsFault, SharesExactly};
+ghost use Rattle.brute_ranges.specs.Wheels.{ranges_of, seen, AreWheels};
 
 use crate::fault::SpaceFault;
 use crate::ranges::{TicRanges, has_values, is_in_bounds, tic_count, tic_numbered};
@@ -25,34 +25,33 @@ struct Wheel {
     later: u64,
 }
 
-/// The sequences of a search. Contracts see it as the list of its tics' ranges.
+/// The sequences of a search. Contracts see it as the ranges of its tics, and whether their turns are those of a long demo.
 #[derive(Debug, Drop)]
 pub struct Space {
     wheels: Vec<Wheel>,
     count: u64,
+    long: bool,
 }
 
 impl Model for Space {
-    ghost use Rattle.std.specs.Prelude.{List};
-    ghost use Rattle.brute_ranges.specs.declared.ranges.TicRanges.{TicRanges};
-    ghost use Rattle.brute_ranges.specs.Space.{IsSpace};
-    ghost use Rattle.brute_ranges.specs.Wheels.{ranges_of, AreWheels};
+    ghost use Rattle.brute_ranges.specs.Space.{Ranges, IsSpace};
+    ghost use Rattle.brute_ranges.specs.Wheels.{seen, AreWheels};
 
-    ghost Value = { List TicRanges };
+    ghost Value = { Ranges };
 
-    ghost view = { λ space. ranges_of space.wheels.items };
+    ghost view = { λ space. seen space.wheels.items space.long };
 
-    ghost invariant = { λ space. IsSpace (ranges_of space.wheels.items) × AreWheels space.wheels.items space.count };
+    ghost invariant = { λ space. IsSpace (seen space.wheels.items space.long) × AreWheels space.long space.wheels.items space.count };
 }
 
 /// The first fault of the tics, each by itself.
-fn judged(tics: &[TicRanges]) -> Result<(), SpaceFault>
+fn judged(tics: &[TicRanges], long: bool) -> Result<(), SpaceFault>
     requires { IsDeep tics.now }
-    ensures ok { OnOk result (All IsSound tics.now) }
-    ensures fault { IfErr result (IsFault tics.now) }
+    ensures ok { OnOk result (All (IsSound long) tics.now) }
+    ensures fault { IfErr result (IsFault (ranges_with tics.now long)) }
 {
     for (i, ranges) in tics.iter().enumerate() {
-        if !is_in_bounds(ranges) {
+        if !is_in_bounds(ranges, long) {
             return Err(SpaceFault::Bounds(i));
         }
         if !has_values(ranges) {
@@ -74,13 +73,13 @@ fn in_front(wheels: &mut Vec<Wheel>, wheel: Wheel) -> Result<(), SpaceFault>
 }
 
 /// The wheels of these tics, and how many sequences they make.
-fn wheels_of(alloc: Global, tics: &[TicRanges]) -> Result<(Vec<Wheel>, u64), SpaceFault>
+fn wheels_of(alloc: Global, tics: &[TicRanges], long: bool) -> Result<(Vec<Wheel>, u64), SpaceFault>
     requires deep { IsDeep tics.now }
-    requires sound { All IsSound tics.now }
+    requires sound { All (IsSound long) tics.now }
     ensures ranges { IfOk result (λ made. ranges_of made.0.items ≡ tics.now) }
-    ensures wheels { IfOk result (λ made. AreWheels made.0.items made.1) }
+    ensures wheels { IfOk result (λ made. AreWheels long made.0.items made.1) }
     ensures few { IfOk result (λ made. made.1 ≤ 2 ^ 40) }
-    ensures fault { IfErr result (IsFault tics.now) }
+    ensures fault { IfErr result (IsFault (ranges_with tics.now long)) }
 {
     let mut wheels = Vec::new(alloc);
     let mut count = 1;
@@ -104,11 +103,11 @@ fn wheels_of(alloc: Global, tics: &[TicRanges]) -> Result<(Vec<Wheel>, u64), Spa
 }
 
 impl Space {
-    /// The space of these ranges.
-    pub fn new(alloc: Global, tics: Vec<TicRanges>) -> Result<Space, SpaceFault>
-        ensures ok { IfOk result (λ space. space ≡ tics.items) }
+    /// The space of these ranges, whose turns are those of a long demo or of a short one.
+    pub fn new(alloc: Global, tics: Vec<TicRanges>, long: bool) -> Result<Space, SpaceFault>
+        ensures ok { IfOk result (λ space. space ≡ ranges_with tics.items long) }
         ensures sound { IfOk result IsSpace }
-        ensures fault { IfErr result (IsFault tics.items) }
+        ensures fault { IfErr result (IsFault (ranges_with tics.items long)) }
     {
         let depth = tics.len();
         if depth == 0 {
@@ -117,9 +116,13 @@ impl Space {
         if depth > MAX_DEPTH {
             return Err(SpaceFault::Depth(depth));
         }
-        judged(&tics)?;
-        let (wheels, count) = wheels_of(alloc, &tics)?;
-        Ok(Space { wheels, count })
+        judged(&tics, long)?;
+        let (wheels, count) = wheels_of(alloc, &tics, long)?;
+        Ok(Space {
+            wheels,
+            count,
+            long,
+        })
     }
 
     /// How many sequences there are.
@@ -133,9 +136,9 @@ impl Space {
 
     /// How many tics a sequence has.
     pub fn depth(&self) -> u32
-        ensures depth { result ≡ length self.now }
-        ensures deep { IsDeep self.now }
-        ensures each { (k : ℕ) → k < length (all_sequences self.now) → length (sequence_at self.now k) ≡ length self.now }
+        ensures depth { result ≡ length self.now.tics }
+        ensures deep { IsDeep self.now.tics }
+        ensures each { (k : ℕ) → k < length (all_sequences self.now) → length (sequence_at self.now k) ≡ length self.now.tics }
     {
         self.wheels.len() as u32
     }
@@ -143,18 +146,21 @@ impl Space {
     /// Tic i of sequence k.
     pub fn tic_at(&self, k: u64, i: u32) -> Tic
         requires number { k < length (all_sequences self.now) }
-        requires place { i < length self.now }
-        ensures { slice_get (sequence_at self.now k) i ≡ Some result }
+        requires place { i < length self.now.tics }
+        ensures tic { slice_get (sequence_at self.now k) i ≡ Some result }
     {
         let wheel = self.wheels[i as usize];
-        tic_numbered(&wheel.ranges, k / wheel.later % wheel.tics)
+        tic_numbered(&wheel.ranges, self.long, k / wheel.later % wheel.tics)
     }
 
-    /// How many leading tics the sequences a and b share.
+    /// How many leading tics the sequences a and b share. The sequences between them begin with these tics too, so no
+    /// sequence shares more with one before the last than with the last one.
     pub fn shared(&self, a: u64, b: u64) -> u32
         requires first { a < length (all_sequences self.now) }
         requires second { b < length (all_sequences self.now) }
-        ensures { SharesExactly result (sequence_at self.now a) (sequence_at self.now b) }
+        ensures shared { result ≡ shared_front (sequence_at self.now a) (sequence_at self.now b) }
+        ensures exactly { SharesExactly result (sequence_at self.now a) (sequence_at self.now b) }
+        ensures between { (m : ℕ) → a ≤ m → m ≤ b → take result (sequence_at self.now a) ≡ take result (sequence_at self.now m) }
     {
         let depth = self.depth();
         for i in 0..depth {
@@ -169,9 +175,9 @@ impl Space {
     /// Writes the tics of sequence k, from tic `from` on.
     pub fn write(&self, k: u64, from: u32, tics: &mut [Tic])
         requires number { k < length (all_sequences self.now) }
-        requires length { length tics.old ≡ length self.now }
-        requires from { from ≤ length self.now }
-        ensures { tics.new ≡ take from tics.old ++ drop from (sequence_at self.now k) }
+        requires length { length tics.old ≡ length self.now.tics }
+        requires from { from ≤ length self.now.tics }
+        ensures written { tics.new ≡ take from tics.old ++ drop from (sequence_at self.now k) }
     {
         let depth = self.depth();
         for n in 0..depth - from {
@@ -182,7 +188,7 @@ impl Space {
     /// The tics of sequence k.
     pub fn sequence(&self, alloc: Global, k: u64) -> Result<Vec<Tic>, Memory>
         requires { k < length (all_sequences self.now) }
-        ensures { IfOk result (λ tics. tics.items ≡ sequence_at self.now k) }
+        ensures sequence { IfOk result (λ tics. tics.items ≡ sequence_at self.now k) }
     {
         let mut tics = Vec::new(alloc);
         for i in 0..self.depth() {

@@ -1,5 +1,5 @@
 -- How the script of the lines that are left goes as the script of all lines does.
-use Rattle.std.proofs.Common.{◌≡◌, ap, refl, ℕ, List, [], ◌∷◌, ◌++◌, append_assoc, append-nil, Result, Ok, Err, Option, Some, None}
+use Rattle.std.proofs.Common.{Bool, ◌≡◌, ap, refl, ℕ, List, [], ◌∷◌, ◌++◌, append_assoc, append-nil, Result, Ok, Err, Option, Some, None}
 use Rattle.std.specs.Option.{option_to_list}
 use Rattle.std.specs.List.{filter_map, cons_option}
 use Rattle.build_script.specs.declared.fault.Kind.{Kind}
@@ -18,7 +18,7 @@ moved front entries (Some entry) [] = ap Ok (append_assoc front (entry ∷ []) e
 moved front entries entry (fault ∷ faults) = refl
 
 -- a line without a fault only adds its entry
-pub script_from-cons : (front : List Entry) (numbered : ℕ × List ℕ) (rest : List (ℕ × List ℕ)) → fault_of numbered ≡ None
-    → with_front (front ++ option_to_list (entry_of numbered)) (script_from rest) ≡ with_front front (script_from (numbered ∷ rest))
-script_from-cons front numbered rest none =
-    rw none (moved front (filter_map entry_of rest) (entry_of numbered) (filter_map fault_of rest))
+pub script_from-cons : (long : Bool) (front : List Entry) (numbered : ℕ × List ℕ) (rest : List (ℕ × List ℕ)) → fault_of long numbered ≡ None
+    → with_front (front ++ option_to_list (entry_of long numbered)) (script_from long rest) ≡ with_front front (script_from long (numbered ∷ rest))
+script_from-cons long front numbered rest none =
+    rw none (moved front (filter_map (entry_of long) rest) (entry_of long numbered) (filter_map (fault_of long) rest))

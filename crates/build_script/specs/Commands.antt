@@ -1,7 +1,9 @@
 -- The commands of a script: what each is written as, and the first fault in a line that is none.
-use Rattle.std.specs.Prelude.{ℕ, ℤ, pos, negsuc, ◌≡◌, List, [], ◌∷◌, codes, if◌then◌else◌, unsigned_abs, Result, Ok, Err, Option, Some, None}
+use Rattle.std.specs.Prelude.{ℕ, ℤ, pos, negsuc, ◌≡◌, Bool, List, [], ◌∷◌, codes, if◌then◌else◌, unsigned_abs, Result, Ok, Err, Option, Some, None}
 use Rattle.std.specs.Str.{bytes_eq}
 use Rattle.lmp_codec.specs.declared.input.Tic.{Tic}
+use Rattle.lmp_codec.specs.Turns.{least_turn, greatest_turn, turn_of}
+use Rattle.lmp_codec.specs.Tics.{tic_of, HoldsTurn}
 use Rattle.build_script.specs.declared.numbers.Bounds.{Bounds}
 use Rattle.build_script.specs.declared.fault.Kind.{Kind}
 use Rattle.build_script.specs.declared.fault.Kind.TheVariants.{Word, Missing}
@@ -10,7 +12,6 @@ use Rattle.build_script.specs.declared.commands.Command.TheVariants.{Seek, Put, 
 use Rattle.build_script.specs.declared.judge.Name.{Name}
 use Rattle.build_script.specs.declared.judge.Name.TheVariants as names
 use Rattle.build_script.specs.Numbers.{number_within}
-use Rattle.build_script.specs.Tics.{tic_of}
 
 -- Words are judged from left to right: what follows is judged only where this one has no fault.
 infixl 10 ◌>>=◌
@@ -47,9 +48,9 @@ forward_bounds = record { least = negsuc 126; greatest = pos 127 }
 abbrev pub side_bounds : Bounds
 side_bounds = record { least = negsuc 127; greatest = pos 127 }
 
--- -128 to 255: a turn may be written as a signed or as an unsigned byte
-abbrev pub turn_bounds : Bounds
-turn_bounds = record { least = negsuc 127; greatest = pos 255 }
+-- -128 to 255, and in a long demo -32768 to 65535
+abbrev pub turn_bounds : Bool → Bounds
+turn_bounds long = record { least = least_turn long; greatest = greatest_turn long }
 
 -- 0 to 255
 abbrev pub buttons_bounds : Bounds
@@ -62,13 +63,13 @@ count_bounds = record { least = pos 1; greatest = pos 1000000 }
 -- ---- what the words after a command's name say
 
 -- the tic of a put or an insert: forward, side, turn and buttons
-abbrev pub tic_in : List (List ℕ) → Result Tic Kind
-tic_in words = do
+abbrev pub tic_in : Bool → List (List ℕ) → Result Tic Kind
+tic_in long words = do
   forward ← next_number forward_bounds words
   side ← next_number side_bounds forward.1
-  turn ← next_number turn_bounds side.1
+  turn ← next_number (turn_bounds long) side.1
   buttons ← next_number buttons_bounds turn.1
-  complete (tic_of forward.0 side.0 turn.0 buttons.0) buttons.1
+  complete (tic_of forward.0 side.0 (turn_of long turn.0) (unsigned_abs buttons.0)) buttons.1
 
 -- the place of a seek
 abbrev pub place_in : List (List ℕ) → Result ℕ Kind
@@ -93,11 +94,17 @@ name_of word =
     else if bytes_eq word (codes "repeat") then Some names.Repeat
     else None
 
--- the command of this name, with the words after it
-abbrev pub command_of : Name → List (List ℕ) → Result Command Kind
-command_of names.Seek words = place_in words >>= (λ place. Ok (Seek place))
-command_of names.Put words = tic_in words >>= (λ tic. Ok (Put tic))
-command_of names.Insert words = tic_in words >>= (λ tic. Ok (Insert tic))
-command_of names.Delete words = complete Delete words
-command_of names.Cut words = complete Cut words
-command_of names.Repeat words = count_in words >>= (λ count. Ok (Repeat count))
+-- the command of this name, with the words after it, for a long or a short demo
+abbrev pub command_of : Bool → Name → List (List ℕ) → Result Command Kind
+command_of long names.Seek words = place_in words >>= (λ place. Ok (Seek place))
+command_of long names.Put words = tic_in long words >>= (λ tic. Ok (Put tic))
+command_of long names.Insert words = tic_in long words >>= (λ tic. Ok (Insert tic))
+command_of long names.Delete words = complete Delete words
+command_of long names.Cut words = complete Cut words
+command_of long names.Repeat words = count_in words >>= (λ count. Ok (Repeat count))
+
+-- a demo of this version holds the tic that a command adds, where it adds one
+abbrev pub HoldsTicOf : Bool → Command → Type 0
+HoldsTicOf long (Put tic) = HoldsTurn long tic
+HoldsTicOf long (Insert tic) = HoldsTurn long tic
+HoldsTicOf long command = Unit {0}

@@ -2,4 +2,3 @@ pub mod Commands
 pub mod Numbers
 pub mod Script
 pub mod Text
-pub mod Tics

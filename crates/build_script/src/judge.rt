@@ -1,13 +1,14 @@
 // The commands by their names, each with the words after it, which are judged from left to right.
-ghost use Rattle.std.specs.Prelude.{◌≡◌, ◌≤ℤ◌, pos, negsuc, IfOk};
-ghost use Rattle.build_script.specs.Tics.{tic_of};
-ghost use Rattle.build_script.specs.Commands.{Reads, next_number, complete, tic_in, place_in, count_in, name_of, command_of};
+ghost use Rattle.std.specs.Prelude.{◌≡◌, ◌≤ℤ◌, pos, negsuc, unsigned_abs, IfOk};
+ghost use Rattle.lmp_codec.specs.Turns.{turn_of};
+ghost use Rattle.lmp_codec.specs.Tics.{tic_of, HoldsTurn};
+ghost use Rattle.build_script.specs.Commands.{Reads, next_number, complete, turn_bounds, tic_in, place_in, count_in, name_of, command_of, HoldsTicOf};
 
 use crate::commands::Command;
 use crate::fault::Kind;
 use crate::numbers::{Bounds, number_within};
 use crate::text::Words;
-use lmp_codec::Tic;
+use lmp_codec::{Tic, turn_of};
 
 /// The most tics that a session may have.
 const MOST_TICS: i64 = 1_000_000;
@@ -30,6 +31,11 @@ const SIDE: Bounds = Bounds {
 const TURN: Bounds = Bounds {
     least: -128,
     greatest: 255,
+};
+
+const LONG_TURN: Bounds = Bounds {
+    least: -32_768,
+    greatest: 65_535,
 };
 
 const BUTTONS: Bounds = Bounds {
@@ -63,34 +69,50 @@ fn complete(mut words: Words) -> Result<(), Kind>
     }
 }
 
-/// The tic of these numbers, the turn taken modulo 256.
-fn tic_of(forward: i64, side: i64, turn: i64, buttons: i64) -> Tic
+/// The number that the next word spells, and that says a turn.
+fn next_turn(words: &mut Words, long: bool) -> Result<i64, Kind>
+    ensures value { Reads result words.new (next_number (turn_bounds long) words.old) }
+    ensures within { IfOk result (λ turn. (negsuc 32767 ≤ℤ turn) × (turn ≤ℤ pos 65535)) }
+{
+    if long {
+        next_number(words, LONG_TURN)
+    } else {
+        next_number(words, TURN)
+    }
+}
+
+/// The tic of these numbers.
+fn tic_of(long: bool, forward: i64, side: i64, turn: i64, buttons: i64) -> Tic
     requires forward_least { negsuc 126 ≤ℤ forward }
     requires forward_greatest { forward ≤ℤ pos 127 }
     requires side_least { negsuc 127 ≤ℤ side }
     requires side_greatest { side ≤ℤ pos 127 }
+    requires turn_least { negsuc 32767 ≤ℤ turn }
+    requires turn_greatest { turn ≤ℤ pos 65535 }
     requires buttons_least { pos 0 ≤ℤ buttons }
     requires buttons_greatest { buttons ≤ℤ pos 255 }
-    ensures { result ≡ tic_of forward side turn buttons }
+    ensures tic { result ≡ tic_of forward side (turn_of long turn) (unsigned_abs buttons) }
+    ensures held { HoldsTurn long result }
 {
-    Tic {
-        forward: forward as i8,
-        side: side as i8,
-        turn: turn.rem_euclid(256) as u8,
-        buttons: buttons as u8,
-    }
+    Tic::of_numbers(
+        forward as i8,
+        side as i8,
+        turn_of(long, turn as i32),
+        buttons as u8,
+    )
 }
 
 /// A tic, by its forward, side, turn and buttons.
-fn tic_in(mut words: Words) -> Result<Tic, Kind>
-    ensures { result ≡ tic_in words.entry }
+fn tic_in(mut words: Words, long: bool) -> Result<Tic, Kind>
+    ensures tic { result ≡ tic_in long words.entry }
+    ensures held { IfOk result (HoldsTurn long) }
 {
     let forward = next_number(&mut words, FORWARD)?;
     let side = next_number(&mut words, SIDE)?;
-    let turn = next_number(&mut words, TURN)?;
+    let turn = next_turn(&mut words, long)?;
     let buttons = next_number(&mut words, BUTTONS)?;
     complete(words)?;
-    Ok(tic_of(forward, side, turn, buttons))
+    Ok(tic_of(long, forward, side, turn, buttons))
 }
 
 /// A place for the cursor.
@@ -137,14 +159,15 @@ pub fn name_of(word: &[u8]) -> Option<Name>
     }
 }
 
-/// The command of this name, with the words after it.
-pub fn command_of(name: Name, words: Words) -> Result<Command, Kind>
-    ensures { result ≡ command_of name words.entry }
+/// The command of this name, with the words after it, for a long or a short demo.
+pub fn command_of(name: Name, words: Words, long: bool) -> Result<Command, Kind>
+    ensures command { result ≡ command_of long name words.entry }
+    ensures held { IfOk result (HoldsTicOf long) }
 {
     let command = match name {
         Name::Seek => Command::Seek(place_in(words)?),
-        Name::Put => Command::Put(tic_in(words)?),
-        Name::Insert => Command::Insert(tic_in(words)?),
+        Name::Put => Command::Put(tic_in(words, long)?),
+        Name::Insert => Command::Insert(tic_in(words, long)?),
         Name::Delete => {
             complete(words)?;
             Command::Delete

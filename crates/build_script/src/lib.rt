@@ -14,6 +14,3 @@ mod text;
 pub use commands::{Command, Entry, Script};
 pub use fault::{Kind, ScriptFault};
 pub use reading::read_script;
-
-#[cfg(test)]
-mod tests;

@@ -1,10 +1,10 @@
 -- The header at the front of a text: whole, cut, or with a byte that breaks its rule.
-use Rattle.std.proofs.Common.{ℕ, zero, suc, ◌+◌, ◌-◌, ◌<◌, ◌≤◌, ◌≡◌, ◌≢◌, ◌++◌, ◌⊎◌, inl, inr, List, [], ◌∷◌, length, drop, slice_index, IsTrue, true, arith, ap, refl, subst, sym, ◌∙◌, append_assoc, Some}
-use Rattle.std.specs.List.{flat_map, slice_get}
+use Rattle.std.proofs.Common.{ℕ, zero, suc, ◌+◌, ◌-◌, ◌<◌, ◌≤◌, ◌≡◌, ◌≢◌, ◌++◌, ◌⊎◌, inl, inr, List, [], ◌∷◌, length, drop, slice_index, IsTrue, true, eqb, arith, ap, refl, subst, sym, ◌∙◌, append_assoc, Some}
+use Rattle.std.specs.List.{slice_get}
 use Rattle.std.proofs.lemmas.List.{get_or_append_left, get_or-append_right, get_or-drop, length-drop, length-append, append-nil}
-use Rattle.std.proofs.lemmas.Bool.{agree_below_at, cases_Bool, cases_lt, both_ways, eqb-true}
+use Rattle.std.proofs.lemmas.Bool.{agree_below_at, cases_Bool, cases_lt, both_ways, eqb-true, or_cases}
 use Rattle.lmp_codec.specs.Header.{IsHeader, may_stand, header_len}
-use Rattle.lmp_codec.specs.Demo.{tic_bytes, end_byte, IsDemo, IsCut, IsLong, BreaksHeader}
+use Rattle.lmp_codec.specs.Demo.{spelled, end_byte, IsDemo, IsCut, IsLong, BreaksHeader}
 use Rattle.lmp_codec.specs.declared.input.Tic.{Tic}
 use Rattle.lmp_codec.proofs.Progress.{not_empty}
 
@@ -22,13 +22,15 @@ KeepsRules text = (k : ℕ) → k < header_len → k < length text → IsTrue (m
 filled_stands : (text : List ℕ) → length text ≤ 13 → KeepsRules text → (k : ℕ) → k < 13 → may_stand k (slice_index (text ++ drop (length text) sample) k) ≡ true
 filled_stands text short keeps k h =
     elim (cases_lt k (length text)) [
-      | inl within ↦ ap (may_stand k) (get_or_append_left text (drop (length text) sample) 0 k within) ∙ keeps k h within
+      | inl within ↦
+          let here : slice_index (text ++ drop (length text) sample) k ≡ slice_index text k = get_or_append_left text (drop (length text) sample) 0 k within in
+          ap (may_stand k) here ∙ keeps k h within
       | inr past ↦
-          ap (may_stand k)
-          (get_or-append_right text (drop (length text) sample) (length text) k 0 refl past
+          let there : slice_index (text ++ drop (length text) sample) k ≡ slice_index sample k =
+          get_or-append_right text (drop (length text) sample) (length text) k 0 refl past
           ∙ get_or-drop (length text) sample (k - length text) 0
-          ∙ ap (λ (n : ℕ). slice_index sample n) (omega arith))
-          ∙ sample_stands k h
+          ∙ ap (λ (n : ℕ). slice_index sample n) (omega arith) in
+          ap (may_stand k) there ∙ sample_stands k h
     ]
 
 -- a text that ends in its header
@@ -88,7 +90,7 @@ pub demo_opens : (text header : List ℕ) (tics : List Tic) → IsDemo text head
 demo_opens text header tics d = record {
   header = header;
   more = [];
-  rest = (flat_map tic_bytes tics ++ end_byte ∷ []) ++ d.begins.0;
+  rest = (spelled header tics ++ end_byte ∷ []) ++ d.begins.0;
   valid = d.form.valid;
   opens = append-nil text ∙ d.begins.1 ∙ simp append_assoc;
 }
@@ -97,26 +99,33 @@ pub cut_opens : (text : List ℕ) → IsCut text → Opens text
 cut_opens text c = record {
   header = c.header;
   more = c.more;
-  rest = flat_map tic_bytes c.tics ++ end_byte ∷ [];
+  rest = spelled c.header c.tics ++ end_byte ∷ [];
   valid = c.form.valid;
-  opens = sym c.front ∙ append_assoc c.header (flat_map tic_bytes c.tics) (end_byte ∷ []);
+  opens = sym c.front ∙ append_assoc c.header (spelled c.header c.tics) (end_byte ∷ []);
 }
 
 pub long_opens : (text : List ℕ) → IsLong text → Opens text
 long_opens text l = record {
   header = l.header;
   more = [];
-  rest = flat_map tic_bytes l.tics ++ l.next ∷ l.rest;
+  rest = spelled l.header l.tics ++ l.next ∷ l.rest;
   valid = l.form.valid;
-  opens = append-nil text ∙ l.front ∙ append_assoc l.header (flat_map tic_bytes l.tics) (l.next ∷ l.rest);
+  opens = append-nil text ∙ l.front ∙ append_assoc l.header (spelled l.header l.tics) (l.next ∷ l.rest);
 }
 
 -- what begins with a header breaks no rule, and has the version
 pub opens_unbroken : (text : List ℕ) (place : ℕ) → Opens text → BreaksHeader text place → ⊥
 opens_unbroken text place o b = both_ways (may_stand place (slice_index text place)) b.broken (opens_keeps text o place b.in_header b.in_text)
 
-pub opens_version : (text : List ℕ) (version : ℕ) → Opens text → slice_get text 0 ≡ Some version → version ≢ 109 → ⊥
-opens_version [] version o first wrong = absurd cc
-opens_version (byte ∷ text) version o first wrong =
+pub known_version : (byte version : ℕ) → byte ≡ version → version ≢ 109 → version ≢ 111 → may_stand 0 byte ≡ true → ⊥
+known_version byte version is no_short no_long stands =
+    elim (or_cases (eqb byte 109) (eqb byte 111) stands) [
+      | inl short ↦ no_short (sym is ∙ eqb-true byte 109 short)
+      | inr long ↦ no_long (sym is ∙ eqb-true byte 111 long)
+    ]
+
+pub opens_version : (text : List ℕ) (version : ℕ) → Opens text → slice_get text 0 ≡ Some version → version ≢ 109 → version ≢ 111 → ⊥
+opens_version [] version o first no_short no_long = absurd cc
+opens_version (byte ∷ text) version o first no_short no_long =
     let is : byte ≡ version = cc in
-    wrong (sym is ∙ eqb-true byte 109 (opens_keeps (byte ∷ text) o 0 (omega arith) (omega arith)))
+    known_version byte version is no_short no_long (opens_keeps (byte ∷ text) o 0 (omega arith) (omega arith))

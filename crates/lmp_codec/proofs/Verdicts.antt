@@ -1,50 +1,43 @@
 -- Each text of bytes has one verdict.
-use Rattle.std.proofs.Common.{ℕ, zero, suc, ◌+◌, ◌<◌, ◌≤◌, ◌≡◌, ◌≢◌, ◌++◌, ◌⊎◌, inl, inr, List, [], ◌∷◌, length, take, drop, slice_index, arith, ap, refl, subst, sym, ◌∙◌, append_assoc, Some, Result, Ok, Err}
+use Rattle.std.proofs.Common.{Bool, true, false, ℕ, zero, suc, ◌+◌, ◌<◌, ◌≤◌, ◌≡◌, ◌≢◌, ◌++◌, ◌⊎◌, inl, inr, List, [], ◌∷◌, length, take, drop, slice_index, arith, ap, refl, subst, sym, ◌∙◌, append_assoc, Some, Result, Ok, Err}
 use Rattle.std.specs.List.{flat_map, AllByRecursion, slice_get}
-use Rattle.std.specs.Int.{cast_unsigned, w8}
 use Rattle.std.proofs.lemmas.List.{take_at, drop_at, length-take, length-take-le, get_or-take, append-nil}
-use Rattle.std.proofs.lemmas.Bool.{cases_lt, eqb-true, both_ways}
+use Rattle.std.proofs.lemmas.Bool.{cases_lt, both_ways}
 use Rattle.std.proofs.lemmas.Bool.Decides.{eqb_tells}
-use Rattle.lmp_codec.specs.Header.{IsHeader, may_stand, header_len}
-use Rattle.lmp_codec.specs.Demo.{tic_bytes, end_byte, most_tics, FitsBytes, IsDemo, IsCut, IsLong, BreaksHeader, IsFault, IsVerdict, written, MayBeWritten}
+use Rattle.lmp_codec.specs.Header.{IsHeader, may_stand, is_long, header_len}
+use Rattle.lmp_codec.specs.Demo.{tic_len, tic_bytes, spelled, end_byte, most_tics, FitsBytes, IsDemo, IsCut, IsLong, BreaksHeader, IsFault, IsVerdict, written, MayBeWritten}
 use Rattle.lmp_codec.specs.declared.input.Tic.{Tic}
 use Rattle.lmp_codec.specs.declared.whole.Demo.{Demo}
 use Rattle.lmp_codec.specs.declared.fault.DemoFault.{DemoFault}
 use Rattle.lmp_codec.specs.declared.fault.DemoFault.TheVariants.{DemoVersion, DemoHead, DemoCut, DemoLong, Memory}
-use Rattle.lmp_codec.proofs.Spelling.{never_end, same_tic}
-use Rattle.lmp_codec.proofs.Progress.{AreBytes, ReadSoFar, demo_here, long_here, cut_at_end, cut_within, read_on}
-use Rattle.lmp_codec.proofs.Fronts.{KeepsRules, header_cut, search_break, demo_opens, cut_opens, long_opens, opens_unbroken, opens_version}
+use Rattle.lmp_codec.proofs.Spelling.{AreBytes, heads, begins_apart, same_bytes}
+use Rattle.lmp_codec.proofs.Progress.{ReadSoFar, demo_here, long_here, cut_at_end, cut_within, read_on}
+use Rattle.lmp_codec.proofs.Fronts.{KeepsRules, header_cut, search_break, demo_opens, cut_opens, long_opens, opens_unbroken, opens_version, known_version}
 
 -- ---- no two verdicts
 
-heads : (a b : ℕ) (x y : List ℕ) → a ∷ x ≡ b ∷ y → a ≡ b
-heads a b x y e = cc
-
-four : (a b c d i j k l : ℕ) (x y : List ℕ) → a ∷ b ∷ c ∷ d ∷ x ≡ i ∷ j ∷ k ∷ l ∷ y → (a ≡ i) × (b ≡ j) × (c ≡ k) × (d ≡ l) × (x ≡ y)
-four a b c d i j k l x y e = (cc, cc, cc, cc, cc)
-
-not_end : (tic : Tic) → FitsBytes tic → cast_unsigned w8 tic.forward ≢ end_byte
-not_end tic fits = never_end tic.forward tic.above_end_byte fits.forward
-
 -- two lists of tics, each with its end byte
-same_tics : (ps qs : List Tic) (x y : List ℕ) → AllByRecursion FitsBytes ps → AllByRecursion FitsBytes qs → flat_map tic_bytes ps ++ end_byte ∷ x ≡ flat_map tic_bytes qs ++ end_byte ∷ y → (ps ≡ qs) × (x ≡ y)
-same_tics [] [] x y p q e = (refl, cc)
-same_tics [] (b ∷ qs) x y p q e = absurd (not_end b q.0 (sym (heads _ _ _ _ e)))
-same_tics (a ∷ ps) [] x y p q e = absurd (not_end a p.0 (heads _ _ _ _ e))
-same_tics (a ∷ ps) (b ∷ qs) x y p q e =
-    let parts = four _ _ _ _ _ _ _ _ _ _ e in
-    let rest = same_tics ps qs x y p.1 q.1 parts.4 in
-    let first : a ≡ b = same_tic a b p.0 q.0 parts.0 parts.1 parts.2 parts.3 in
+same_tics : (long : Bool) (ps qs : List Tic) (x y : List ℕ) → AllByRecursion (FitsBytes long) ps → AllByRecursion (FitsBytes long) qs → flat_map (tic_bytes long) ps ++ end_byte ∷ x ≡ flat_map (tic_bytes long) qs ++ end_byte ∷ y
+    → (ps ≡ qs) × (x ≡ y)
+same_tics long [] [] x y p q e = (refl, cc)
+same_tics long [] (b ∷ qs) x y p q e = absurd (begins_apart long b (flat_map (tic_bytes long) qs ++ end_byte ∷ y) x q.0 (sym (append_assoc (tic_bytes long b) _ _) ∙ sym e))
+same_tics long (a ∷ ps) [] x y p q e = absurd (begins_apart long a (flat_map (tic_bytes long) ps ++ end_byte ∷ x) y p.0 (sym (append_assoc (tic_bytes long a) _ _) ∙ e))
+same_tics long (a ∷ ps) (b ∷ qs) x y p q e =
+    let first = same_bytes long a b _ _ p.0 q.0 (sym (append_assoc (tic_bytes long a) _ _) ∙ e ∙ append_assoc (tic_bytes long b) _ _) in
+    let rest = same_tics long ps qs x y p.1 q.1 first.1 in
+    let here : a ≡ b = first.0 in
+    let behind : ps ≡ qs = rest.0 in
     (cc, rest.1)
 
--- tics with their end byte, and at least ps many that go on
-ends_or_goes_on : (ps qs : List Tic) (next : ℕ) (x y : List ℕ) → AllByRecursion FitsBytes ps → AllByRecursion FitsBytes qs → length ps ≤ length qs → next ≢ end_byte → flat_map tic_bytes ps ++ end_byte ∷ x ≡ flat_map tic_bytes qs ++ next ∷ y → ⊥
-ends_or_goes_on [] [] next x y p q few ne e = ne (sym (heads _ _ _ _ e))
-ends_or_goes_on [] (b ∷ qs) next x y p q few ne e = not_end b q.0 (sym (heads _ _ _ _ e))
-ends_or_goes_on (a ∷ ps) [] next x y p q few ne e = absurd (omega arith)
-ends_or_goes_on (a ∷ ps) (b ∷ qs) next x y p q few ne e =
-    let parts = four _ _ _ _ _ _ _ _ _ _ e in
-    ends_or_goes_on ps qs next x y p.1 q.1 (omega arith) ne parts.4
+-- tics with their end byte, and at least as many that go on
+ends_or_goes_on : (long : Bool) (ps qs : List Tic) (next : ℕ) (x y : List ℕ) → AllByRecursion (FitsBytes long) ps → AllByRecursion (FitsBytes long) qs → length ps ≤ length qs → next ≢ end_byte
+    → flat_map (tic_bytes long) ps ++ end_byte ∷ x ≡ flat_map (tic_bytes long) qs ++ next ∷ y → ⊥
+ends_or_goes_on long [] [] next x y p q few ne e = ne (sym (heads _ _ _ _ e))
+ends_or_goes_on long [] (b ∷ qs) next x y p q few ne e = begins_apart long b (flat_map (tic_bytes long) qs ++ next ∷ y) x q.0 (sym (append_assoc (tic_bytes long b) _ _) ∙ sym e)
+ends_or_goes_on long (a ∷ ps) [] next x y p q few ne e = absurd (omega arith)
+ends_or_goes_on long (a ∷ ps) (b ∷ qs) next x y p q few ne e =
+    let first = same_bytes long a b _ _ p.0 q.0 (sym (append_assoc (tic_bytes long a) _ _) ∙ e ∙ append_assoc (tic_bytes long b) _ _) in
+    ends_or_goes_on long ps qs next x y p.1 q.1 (omega arith) ne first.1
 
 same_front : (n : ℕ) (h k x y : List ℕ) → length h ≡ n → length k ≡ n → h ++ x ≡ k ++ y → (h ≡ k) × (x ≡ y)
 same_front n h k x y eh ek e = (
@@ -56,19 +49,25 @@ regroup : (h t r : List ℕ) (b : ℕ) → (h ++ t ++ b ∷ []) ++ r ≡ h ++ (t
 regroup h t r b = simp append_assoc
 
 -- two written forms, one of which may go on
-same_forms : (h k : List ℕ) (ps qs : List Tic) (x y : List ℕ) → MayBeWritten h ps → MayBeWritten k qs → written h ps ++ x ≡ written k qs ++ y → (h ≡ k) × (ps ≡ qs) × (x ≡ y)
+pub same_forms : (h k : List ℕ) (ps qs : List Tic) (x y : List ℕ) → MayBeWritten h ps → MayBeWritten k qs → written h ps ++ x ≡ written k qs ++ y → (h ≡ k) × (ps ≡ qs) × (x ≡ y)
 same_forms h k ps qs x y p q e =
-    let whole = sym (regroup h (flat_map tic_bytes ps) x end_byte) ∙ e ∙ regroup k (flat_map tic_bytes qs) y end_byte in
+    let whole = sym (regroup h (spelled h ps) x end_byte) ∙ e ∙ regroup k (spelled k qs) y end_byte in
     let front = same_front 13 h k _ _ p.valid.whole q.valid.whole whole in
-    let tics = same_tics ps qs x y p.fits q.fits front.1 in
+    let version : is_long k ≡ is_long h = ap is_long (sym front.0) in
+    let Fit : Bool → Type 0 = λ long. AllByRecursion (FitsBytes long) qs in
+    let Same : Bool → Type 0 = λ long. spelled h ps ++ end_byte ∷ x ≡ flat_map (tic_bytes long) qs ++ end_byte ∷ y in
+    let tics = same_tics (is_long h) ps qs x y p.fits (subst Fit version q.fits) (subst Same version front.1) in
     (front.0, tics.0, tics.1)
 
 -- a written form is no text that is too long
-form_or_long : (h k : List ℕ) (ps qs : List Tic) (next : ℕ) (x y : List ℕ) → MayBeWritten h ps → MayBeWritten k qs → length qs ≡ most_tics → next ≢ end_byte → written h ps ++ x ≡ (k ++ flat_map tic_bytes qs ++ next ∷ []) ++ y → ⊥
+form_or_long : (h k : List ℕ) (ps qs : List Tic) (next : ℕ) (x y : List ℕ) → MayBeWritten h ps → MayBeWritten k qs → length qs ≡ most_tics → next ≢ end_byte → written h ps ++ x ≡ (k ++ spelled k qs ++ next ∷ []) ++ y → ⊥
 form_or_long h k ps qs next x y p q full ne e =
-    let whole = sym (regroup h (flat_map tic_bytes ps) x end_byte) ∙ e ∙ regroup k (flat_map tic_bytes qs) y next in
+    let whole = sym (regroup h (spelled h ps) x end_byte) ∙ e ∙ regroup k (spelled k qs) y next in
     let front = same_front 13 h k _ _ p.valid.whole q.valid.whole whole in
-    ends_or_goes_on ps qs next x y p.fits q.fits (subst (λ (n : ℕ). length ps ≤ n) (sym full) p.within) ne front.1
+    let version : is_long k ≡ is_long h = ap is_long (sym front.0) in
+    let Fit : Bool → Type 0 = λ long. AllByRecursion (FitsBytes long) qs in
+    let Same : Bool → Type 0 = λ long. spelled h ps ++ end_byte ∷ x ≡ flat_map (tic_bytes long) qs ++ next ∷ y in
+    ends_or_goes_on (is_long h) ps qs next x y p.fits (subst Fit version q.fits) (subst (λ (n : ℕ). length ps ≤ n) (sym full) p.within) ne (subst Same version front.1)
 
 empty_front : (x y : List ℕ) → x ++ y ≡ [] → y ≡ []
 empty_front [] y e = e
@@ -85,18 +84,18 @@ long_regroup k t r m b = simp append_assoc
 demo_or_long : (text h : List ℕ) (ps : List Tic) → IsDemo text h ps → IsLong text → ⊥
 demo_or_long text h ps d l =
     form_or_long h l.header ps l.tics l.next d.begins.0 l.rest d.form l.form l.full l.goes_on
-    (sym d.begins.1 ∙ l.front ∙ sym (append-nil _) ∙ long_regroup l.header (flat_map tic_bytes l.tics) l.rest [] l.next ∙ ap (λ (x : List ℕ). (l.header ++ flat_map tic_bytes l.tics ++ l.next ∷ []) ++ x) (append-nil l.rest))
+    (sym d.begins.1 ∙ l.front ∙ sym (append-nil _) ∙ long_regroup l.header (spelled l.header l.tics) l.rest [] l.next ∙ ap (λ (x : List ℕ). (l.header ++ spelled l.header l.tics ++ l.next ∷ []) ++ x) (append-nil l.rest))
 
 cut_or_long : (text : List ℕ) → IsCut text → IsLong text → ⊥
 cut_or_long text c l =
     form_or_long c.header l.header c.tics l.tics l.next [] (l.rest ++ c.more) c.form l.form l.full l.goes_on
-    (append-nil _ ∙ c.front ∙ ap (λ (x : List ℕ). x ++ c.more) l.front ∙ long_regroup l.header (flat_map tic_bytes l.tics) l.rest c.more l.next)
+    (append-nil _ ∙ c.front ∙ ap (λ (x : List ℕ). x ++ c.more) l.front ∙ long_regroup l.header (spelled l.header l.tics) l.rest c.more l.next)
 
-version_or_break : (text : List ℕ) (version place : ℕ) → slice_get text 0 ≡ Some version → version ≢ 109 → 0 < place → BreaksHeader text place → ⊥
-version_or_break [] version place first wrong past b = absurd cc
-version_or_break (byte ∷ text) version place first wrong past b =
+version_or_break : (text : List ℕ) (version place : ℕ) → slice_get text 0 ≡ Some version → version ≢ 109 → version ≢ 111 → 0 < place → BreaksHeader text place → ⊥
+version_or_break [] version place first no_short no_long past b = absurd cc
+version_or_break (byte ∷ text) version place first no_short no_long past b =
     let is : byte ≡ version = cc in
-    wrong (sym is ∙ eqb-true byte 109 (b.first 0 past))
+    known_version byte version is no_short no_long (b.first 0 past)
 
 one_break : (text : List ℕ) (this other : ℕ) → BreaksHeader text this → BreaksHeader text other → ¬ (this < other)
 one_break text this other a b less = both_ways (may_stand this (slice_index text this)) a.broken (b.first this less)
@@ -109,7 +108,7 @@ same_break text this other a b =
     ]
 
 demo_or_fault : (text h : List ℕ) (ps : List Tic) (fault : DemoFault) → IsDemo text h ps → IsFault text fault → ⊥
-demo_or_fault text h ps (DemoVersion v) d f = opens_version text v (demo_opens text h ps d) f.0 f.1
+demo_or_fault text h ps (DemoVersion v) d f = opens_version text v (demo_opens text h ps d) f.0 f.1 f.2
 demo_or_fault text h ps (DemoHead i) d f = opens_unbroken text i (demo_opens text h ps d) f.1
 demo_or_fault text h ps (DemoCut n) d f = demo_or_cut text h ps d f.1
 demo_or_fault text h ps DemoLong d f = demo_or_long text h ps d f
@@ -122,18 +121,18 @@ same_fault text (DemoHead i) Memory p q = absurd q
 same_fault text (DemoCut n) Memory p q = absurd q
 same_fault text DemoLong Memory p q = absurd q
 same_fault text (DemoVersion v) (DemoVersion w) p q = let e = sym p.0 ∙ q.0 in cc
-same_fault text (DemoVersion v) (DemoHead j) p q = absurd (version_or_break text v j p.0 p.1 q.0 q.1)
-same_fault text (DemoVersion v) (DemoCut m) p q = absurd (opens_version text v (cut_opens text q.1) p.0 p.1)
-same_fault text (DemoVersion v) DemoLong p q = absurd (opens_version text v (long_opens text q) p.0 p.1)
-same_fault text (DemoHead i) (DemoVersion w) p q = absurd (version_or_break text w i q.0 q.1 p.0 p.1)
+same_fault text (DemoVersion v) (DemoHead j) p q = absurd (version_or_break text v j p.0 p.1 p.2 q.0 q.1)
+same_fault text (DemoVersion v) (DemoCut m) p q = absurd (opens_version text v (cut_opens text q.1) p.0 p.1 p.2)
+same_fault text (DemoVersion v) DemoLong p q = absurd (opens_version text v (long_opens text q) p.0 p.1 p.2)
+same_fault text (DemoHead i) (DemoVersion w) p q = absurd (version_or_break text w i q.0 q.1 q.2 p.0 p.1)
 same_fault text (DemoHead i) (DemoHead j) p q = ap DemoHead (same_break text i j p.1 q.1)
 same_fault text (DemoHead i) (DemoCut m) p q = absurd (opens_unbroken text i (cut_opens text q.1) p.1)
 same_fault text (DemoHead i) DemoLong p q = absurd (opens_unbroken text i (long_opens text q) p.1)
-same_fault text (DemoCut n) (DemoVersion w) p q = absurd (opens_version text w (cut_opens text p.1) q.0 q.1)
+same_fault text (DemoCut n) (DemoVersion w) p q = absurd (opens_version text w (cut_opens text p.1) q.0 q.1 q.2)
 same_fault text (DemoCut n) (DemoHead j) p q = absurd (opens_unbroken text j (cut_opens text p.1) q.1)
 same_fault text (DemoCut n) (DemoCut m) p q = ap DemoCut (sym p.0 ∙ q.0)
 same_fault text (DemoCut n) DemoLong p q = absurd (cut_or_long text p.1 q)
-same_fault text DemoLong (DemoVersion w) p q = absurd (opens_version text w (long_opens text p) q.0 q.1)
+same_fault text DemoLong (DemoVersion w) p q = absurd (opens_version text w (long_opens text p) q.0 q.1 q.2)
 same_fault text DemoLong (DemoHead j) p q = absurd (opens_unbroken text j (long_opens text p) q.1)
 same_fault text DemoLong (DemoCut m) p q = absurd (cut_or_long text q.1 p)
 same_fault text DemoLong DemoLong p q = refl
@@ -158,6 +157,10 @@ Verdict text = (verdict : Result Demo DemoFault) × IsVerdict text verdict
 cut_verdict : (text : List ℕ) → IsCut text → Verdict text
 cut_verdict text cut = (Err (DemoCut (length text)), (refl, cut))
 
+some_bytes : (long : Bool) → 4 ≤ tic_len long
+some_bytes true = omega arith
+some_bytes false = omega arith
+
 -- what is left of the text is gone through, in ps many steps ps it has bytes at most
 from_here : (fuel : ℕ) (text header : List ℕ) (tics : List Tic) (at : ℕ) → length text ≤ at + fuel → ReadSoFar text header tics at → IsHeader header → AreBytes text → Verdict text
 from_here zero text header tics at all read valid bytes = cut_verdict text (cut_at_end text header tics at read valid (omega arith))
@@ -171,11 +174,11 @@ from_here (suc fuel) text header tics at all read valid bytes =
                 elim (eqb_tells (length tics) most_tics) [
                   | inl full ↦ (Err DemoLong, long_here text header tics at read valid inside goes_on.1 full.1)
                   | inr room ↦
-                      elim (cases_lt (length text) (at + 4)) [
+                      elim (cases_lt (length text) (at + tic_len (is_long header))) [
                         | inl short ↦ cut_verdict text (cut_within text header tics at read valid bytes inside goes_on.1 room.1 short)
                         | inr whole ↦
                             let next = read_on text header tics at read bytes goes_on.1 room.1 whole in
-                            from_here fuel text header (tics ++ next.0 ∷ []) (at + 4) (omega arith) next.1 valid bytes
+                            from_here fuel text header (tics ++ next.0 ∷ []) (at + tic_len (is_long header)) (omega (arith, some_bytes (is_long header))) next.1 valid bytes
                       ]
                 ]
           ]
@@ -202,7 +205,7 @@ front_valid text whole keeps = record {
 
 broken_verdict : (text : List ℕ) (place : ℕ) → BreaksHeader text place → Verdict text
 broken_verdict [] place b = absurd (omega arith)
-broken_verdict (byte ∷ text) zero b = (Err (DemoVersion byte), (refl, λ e. both_ways (may_stand 0 byte) b.broken (ap (may_stand 0) e)))
+broken_verdict (byte ∷ text) zero b = (Err (DemoVersion byte), (refl, (λ e. both_ways (may_stand 0 byte) b.broken (ap (may_stand 0) e)), (λ e. both_ways (may_stand 0 byte) b.broken (ap (may_stand 0) e))))
 broken_verdict (byte ∷ text) (suc place) b = (Err (DemoHead (suc place)), (omega arith, b))
 
 bytes_at : (text : List ℕ) → AllByRecursion (λ byte. byte < 256) text → AreBytes text

@@ -1,8 +1,9 @@
 -- What a demo is, as a relation on whole texts, and what is wrong with a text that is none.
-use Rattle.std.specs.Prelude.{ℕ, ◌<◌, ◌≤◌, ◌^◌, ◌≡◌, ◌≢◌, ◌++◌, List, [], ◌∷◌, length, IsTrue, Some, Result, Ok, Err, slice_get, slice_index, FitsSigned, false}
+use Rattle.std.specs.Prelude.{ℕ, ◌/◌, ◌%◌, ◌<◌, ◌≤◌, ◌^◌, ◌≡◌, ◌≢◌, ◌++◌, List, [], ◌∷◌, length, if◌then◌else◌, IsTrue, Some, Result, Ok, Err, slice_get, slice_index, FitsSigned, Bool, true, false}
 use Rattle.std.specs.Int.{cast_unsigned, w8}
 use Rattle.std.specs.List.{flat_map, AllByRecursion}
-use Rattle.lmp_codec.specs.Header.{header_len, may_stand, IsHeader}
+use Rattle.lmp_codec.specs.Header.{header_len, may_stand, is_long, IsHeader}
+use Rattle.lmp_codec.specs.Tics.{HoldsTurn}
 use Rattle.lmp_codec.specs.declared.input.Tic.{Tic}
 use Rattle.lmp_codec.specs.declared.whole.Demo.{Demo}
 use Rattle.lmp_codec.specs.declared.fault.DemoFault.{DemoFault}
@@ -16,25 +17,37 @@ most_tics = 1000000
 abbrev pub end_byte : ℕ
 end_byte = 128
 
--- the four bytes of a tic; the two signed ones in two's complement
-abbrev pub tic_bytes : Tic → List ℕ
-tic_bytes tic = cast_unsigned w8 tic.forward ∷ cast_unsigned w8 tic.side ∷ tic.turn ∷ tic.buttons ∷ []
+-- The bytes of a tic, the two signed ones in two's complement. A long demo, of version 111, has the turn's low byte and
+-- then its high byte; a short one, of version 109, has the high byte alone.
+abbrev pub tic_bytes : Bool → Tic → List ℕ
+tic_bytes true tic = cast_unsigned w8 tic.forward ∷ cast_unsigned w8 tic.side ∷ tic.turn % 256 ∷ tic.turn / 256 ∷ tic.buttons ∷ []
+tic_bytes false tic = cast_unsigned w8 tic.forward ∷ cast_unsigned w8 tic.side ∷ tic.turn / 256 ∷ tic.buttons ∷ []
 
--- a demo as it is written: the header, four bytes for each tic, and the end byte
+-- how many bytes a tic has
+abbrev pub tic_len : Bool → ℕ
+tic_len long = if long then 5 else 4
+
+-- the bytes of tics under a header
+abbrev pub spelled : List ℕ → List Tic → List ℕ
+spelled header tics = flat_map (tic_bytes (is_long header)) tics
+
+-- a demo as it is written: the header, the bytes of each tic, and the end byte
 abbrev pub written : List ℕ → List Tic → List ℕ
-written header tics = header ++ flat_map tic_bytes tics ++ end_byte ∷ []
+written header tics = header ++ spelled header tics ++ end_byte ∷ []
 
--- The numbers of a tic fit their bytes. The program's tics all do; the variables of a law range over every number.
-pub record FitsBytes (tic : Tic) : Type 0 where
+-- The numbers of a tic fit the bytes that a demo has for them. The program's tics fit theirs, but for a turn that a short
+-- demo doesn't hold; the variables of a law range over every number.
+pub record FitsBytes (long : Bool) (tic : Tic) : Type 0 where
   pub forward : FitsSigned w8 tic.forward
   pub side : FitsSigned w8 tic.side
-  pub turn : tic.turn < 2 ^ 8
+  pub turn : tic.turn < 2 ^ 16
+  pub held : HoldsTurn long tic
   pub buttons : tic.buttons < 2 ^ 8
 
 -- this header and these tics have a written form
 pub record MayBeWritten (header : List ℕ) (tics : List Tic) : Type 0 where
   pub valid : IsHeader header
-  pub fits : AllByRecursion FitsBytes tics
+  pub fits : AllByRecursion (FitsBytes (is_long header)) tics
   pub within : length tics ≤ most_tics
 
 -- the text is the written form of this header and these tics, followed by any rest
@@ -67,11 +80,11 @@ pub record IsLong (text : List ℕ) : Type 0 where
   pub form : MayBeWritten header tics
   pub full : length tics ≡ most_tics
   pub goes_on : next ≢ end_byte
-  pub front : text ≡ header ++ flat_map tic_bytes tics ++ next ∷ rest
+  pub front : text ≡ header ++ spelled header tics ++ next ∷ rest
 
 -- This fault is the text's, the first one from the left. Want of memory is nobody's fault.
 abbrev pub IsFault : List ℕ → DemoFault → Type 0
-IsFault text (DemoVersion version) = (slice_get text 0 ≡ Some version) × (version ≢ 109)
+IsFault text (DemoVersion version) = (slice_get text 0 ≡ Some version) × (version ≢ 109) × (version ≢ 111)
 IsFault text (DemoHead place) = (0 < place) × BreaksHeader text place
 IsFault text (DemoCut len) = (length text ≡ len) × IsCut text
 IsFault text DemoLong = IsLong text

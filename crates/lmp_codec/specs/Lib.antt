@@ -1,2 +1,4 @@
 pub mod Header
+pub mod Turns
+pub mod Tics
 pub mod Demo

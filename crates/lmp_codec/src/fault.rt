@@ -9,7 +9,7 @@ pub struct Memory;
 /// Why a text is no demo: the first fault from the left, or that there was no memory to read it.
 #[derive(Clone, Copy, Debug, PartialEq, Eq)]
 pub enum DemoFault {
-    /// The first byte is this one, and not 109.
+    /// The first byte is this one, and neither 109 nor 111.
     DemoVersion(u8),
     /// The header's byte at this place breaks its rule.
     DemoHead(u8),

@@ -1,5 +1,5 @@
 ghost use Rattle.std.specs.Prelude.{◌≡◌, ◌≤◌, slice_index};
-ghost use Rattle.lmp_codec.specs.Header.{IsHeader};
+ghost use Rattle.lmp_codec.specs.Header.{is_long, IsHeader};
 
 use std::marker::Model;
 
@@ -32,6 +32,14 @@ impl Header {
         ensures { result ≡ bytes }
     {
         Header { bytes }
+    }
+
+    /// Whether the demo is a long one, of version 111, whose turns have two bytes.
+    pub fn long(&self) -> bool
+        ensures value { result ≡ is_long self.now }
+        ensures valid { IsHeader self.now }
+    {
+        self.bytes[0] == 111
     }
 
     /// The skill level, 0 to 4.

@@ -9,30 +9,37 @@ pub struct Tic {
     pub forward: i8,
     /// How far to move to the right, or left where it is negative.
     pub side: i8,
-    /// The high byte of the turn to the left, in 256ths of a circle.
-    pub turn: u8,
+    /// The turn to the left, in 65,536ths of a circle. A demo of version 109 holds 256ths alone.
+    pub turn: u16,
     /// 1 attacks, 2 uses, 4 changes to the weapon in 8, 16 and 32, and 128 marks a special tic.
     pub buttons: u8,
     pub ghost above_end_byte: { negsuc 126 ≤ℤ forward },
 }
 
 impl Tic {
+    ghost use Rattle.lmp_codec.specs.Tics.{tic_of};
+
     /// The tic of these numbers, or `None` for the forward that would end a demo.
-    pub fn new(forward: i8, side: i8, turn: u8, buttons: u8) -> Option<Self>
+    pub fn new(forward: i8, side: i8, turn: u16, buttons: u8) -> Option<Self>
         ensures none { IsNone result ↔ (forward ≡ negsuc 127) }
-        ensures forward { IfSome result (λ tic. tic.forward ≡ forward) }
-        ensures side { IfSome result (λ tic. tic.side ≡ side) }
-        ensures turn { IfSome result (λ tic. tic.turn ≡ turn) }
-        ensures buttons { IfSome result (λ tic. tic.buttons ≡ buttons) }
+        ensures made { IfSome result (λ tic. tic ≡ tic_of forward side turn buttons) }
     {
         if forward == i8::MIN {
             return None;
         }
-        Some(Tic {
+        Some(Self::of_numbers(forward, side, turn, buttons))
+    }
+
+    /// The tic of these numbers, where the forward is known to end no demo.
+    pub fn of_numbers(forward: i8, side: i8, turn: u16, buttons: u8) -> Self
+        requires { negsuc 126 ≤ℤ forward }
+        ensures { result ≡ tic_of forward side turn buttons }
+    {
+        Tic {
             forward,
             side,
             turn,
             buttons,
-        })
+        }
     }
 }

@@ -1,5 +1,6 @@
 ghost use Rattle.std.specs.Prelude.{◌≡◌, ◌<◌, ◌⊎◌, take, Result, Err, IsTrue, IfOk, IfErr};
-ghost use Rattle.lmp_codec.specs.Header.{header_len, may_stand, IsHeader};
+ghost use Rattle.lmp_codec.specs.Header.{header_len, may_stand, is_long, IsHeader};
+ghost use Rattle.lmp_codec.specs.Tics.{HoldsTurns};
 ghost use Rattle.lmp_codec.specs.Demo.{IsDemo, IsFault, IsVerdict};
 ghost use Rattle.lmp_codec.specs.declared.whole.Demo.{Demo};
 ghost use Rattle.lmp_codec.specs.declared.fault.DemoFault.{DemoFault};
@@ -7,7 +8,7 @@ ghost use Rattle.lmp_codec.specs.declared.fault.DemoFault.{DemoFault};
 use crate::fault::DemoFault;
 use crate::head::{HEADER_LEN, Header};
 use crate::input::Tic;
-use crate::spell::{TIC_LEN, tic_at};
+use crate::spell::{tic_at, tic_len};
 use crate::whole::{Demo, Tics};
 use std::alloc::Global;
 
@@ -21,6 +22,7 @@ pub const MOST_TICS: usize = 1_000_000;
 pub fn read_demo(alloc: Global, bytes: &[u8]) -> Result<Demo, DemoFault>
     // What is read is written so, and any rest follows it.
     ensures read { IfOk result (λ demo. IsDemo bytes.now demo.header demo.tics) }
+    ensures turns { IfOk result (λ demo. HoldsTurns (is_long demo.header) demo.tics) }
 
     // A fault is that of the bytes, or there was no memory.
     ensures fault { IfErr result (λ fault. (fault ≡ DemoFault.Memory) ⊎ IsFault bytes.now fault) }
@@ -67,7 +69,7 @@ fn may_stand(place: usize, byte: u8) -> bool
     ensures { result ≡ may_stand place byte }
 {
     match place {
-        0 => byte == 109,
+        0 => byte == 109 || byte == 111,
         1 => byte <= 4,
         2 => 1 <= byte && byte <= 9,
         3 => 1 <= byte && byte <= 99,
@@ -97,6 +99,7 @@ fn tics_of(alloc: Global, text: &[u8], header: &Header) -> Result<Vec<Tic>, Demo
     ensures read { IfOk result (λ tics. IsDemo text.now header.now tics.items) }
     ensures fault { IfErr result (λ fault. (fault ≡ DemoFault.Memory) ⊎ IsFault text.now fault) }
 {
+    let long = header.long();
     let mut tics = Vec::new(alloc);
     let mut at = HEADER_LEN;
     while at < text.len() {
@@ -106,11 +109,11 @@ fn tics_of(alloc: Global, text: &[u8], header: &Header) -> Result<Vec<Tic>, Demo
         if tics.len() == MOST_TICS {
             return Err(DemoFault::DemoLong);
         }
-        let Some(tic) = tic_at(text, at) else {
+        let Some(tic) = tic_at(text, at, long) else {
             break;
         };
         tics.push(tic)?;
-        at += TIC_LEN;
+        at += tic_len(long);
     }
     Err(DemoFault::DemoCut(text.len()))
 }

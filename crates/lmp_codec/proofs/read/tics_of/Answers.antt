@@ -1,4 +1,5 @@
-use Rattle.std.proofs.Common.{inr, refl, arith}
+use Rattle.std.proofs.Common.{Bool, ◌+◌, ◌<◌, length, subst, inr, refl, arith}
+use Rattle.lmp_codec.specs.Demo.{tic_len}
 use Rattle.lmp_codec.proofs.Progress.{demo_here, long_here, cut_at_end, cut_within}
 use Rattle.lmp_codec.proofs.read.tics_of.Goals as goal
 use Rattle.lmp_codec.proofs.read.tics_of.Goals.{else-loop-at-test, then-loop-at-test+else-text-at+else-len-eq-MOST_TICS+in_default}
@@ -17,5 +18,5 @@ returns-clause-fault c =
     (elim c.loop-at-test.branch [
       | else-loop-at-test w ↦ (refl, cut_at_end c.args.text.now c.args.header.now _ c.loop-at.at c.loop-at.invariant c.requires.valid w.loop-at-test.false)
       | then-loop-at-test+else-text-at+else-len-eq-MOST_TICS+in_default w ↦
-          (refl, cut_within c.args.text.now c.args.header.now _ c.loop-at.at c.loop-at.invariant c.requires.valid (λ k. omega (arith, c.type_inv.text k)) w.loop-at-test.true w.if-text-at.false (λ e. w.if-len-eq-MOST_TICS.false (omega arith)) w.in_default.ensures.cut)
+          (refl, cut_within c.args.text.now c.args.header.now _ c.loop-at.at c.loop-at.invariant c.requires.valid (λ k. omega (arith, c.type_inv.text k)) w.loop-at-test.true w.if-text-at.false (λ e. w.if-len-eq-MOST_TICS.false (omega arith)) (subst (λ (long : Bool). length c.args.text.now < c.loop-at.at + tic_len long) c.long-long.ensures.value w.in_default.ensures.cut))
     ])
