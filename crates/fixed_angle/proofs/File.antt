@@ -1,8 +1,8 @@
 -- What the conditions on a table file say of its kinds.
 use Rattle.std.proofs.Common.{◌≡◌, inl, inr, ℕ, ◌+◌, ◌*◌, ◌<◌, List, length, Option, Some, None, subst, ap, ◌∙◌}
 use Rattle.std.proofs.lemmas.List.FromFn.{length-map-range_with_len}
-use Rattle.first_fault.specs.FirstFault.{FirstFault, for_each}
-use Rattle.first_fault.proofs.Order.{first_after, none_each}
+use Rattle.fixed_angle.specs.FirstFault.{FirstFault, for_each}
+use Rattle.fixed_angle.proofs.Order.{first_after, none_each}
 use Rattle.fixed_angle.specs.declared.kind.Kind.{Kind}
 use Rattle.fixed_angle.specs.declared.fault.TabFault.{TabFault}
 use Rattle.fixed_angle.specs.declared.fault.TabFault.TheVariants.{TabHead, TabLength, TabActor, Memory}

@@ -3,4 +3,4 @@ pub mod Tables
 pub mod Angle
 pub mod Kept
 pub mod TableFile
-pub use Rattle.first_fault.specs.FirstFault
+pub mod FirstFault

@@ -2,7 +2,7 @@
 use Rattle.std.specs.Prelude.{◌≡◌, ℕ, ◌+◌, ◌*◌, ◌≤◌, ℤ, List, [], ◌∷◌, ◌++◌, length, take, map, codes, slice_index, Some}
 use Rattle.std.specs.List.{range_with_len}
 use Rattle.std.specs.Int.{w32, cast_signed}
-use Rattle.first_fault.specs.FirstFault.{Condition, FirstFault, for_each}
+use Rattle.fixed_angle.specs.FirstFault.{Condition, FirstFault, for_each}
 use Rattle.fixed_angle.specs.declared.kind.Kind.{Kind}
 use Rattle.fixed_angle.specs.declared.fault.TabFault.{TabFault}
 use Rattle.fixed_angle.specs.declared.fault.TabFault.TheVariants.{TabHead, TabLength, TabActor, Memory}

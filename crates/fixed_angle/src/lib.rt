@@ -12,6 +12,3 @@ pub use fault::TabFault;
 pub use fixed::{aprox_distance, fixed_div, fixed_mul, slope_div};
 pub use kind::Kind;
 pub use tables::PlayTables;
-
-#[cfg(test)]
-mod tests;

@@ -1,7 +1,7 @@
 //! Reads the file of the play tables.
 ghost use Rattle.std.specs.Prelude.{◌≡◌, ℕ, ◌+◌, ◌*◌, ◌<◌, ◌≤◌, length, IfOk, OnOk, IfErr, slice_index, None, Some, ◌==◌};
 ghost use Rattle.std.specs.List.{list_any};
-ghost use Rattle.first_fault.specs.FirstFault.{FirstFault, for_each};
+ghost use Rattle.fixed_angle.specs.FirstFault.{FirstFault, for_each};
 ghost use Rattle.fixed_angle.specs.TableFile.{word_at, long_at, signed_at, entries, kind_at, kind_count, kinds_of, head_conditions, kind_conditions, table_conditions, IsCause};
 ghost use Rattle.fixed_angle.specs.Tables.{IsNew};
 

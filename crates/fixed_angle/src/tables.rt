@@ -1,7 +1,7 @@
 //! The play tables: sines, arcs, random numbers and the kinds of things. Its readers allocate nothing; all but
 //! one of them are one read of a table.
 ghost use Rattle.std.specs.Prelude.{◌≡◌, ◌≤◌, ◌≢◌, ◌↔◌, None, length, IfOk, OnOk, IfErr, IfSome, IsNone, All};
-ghost use Rattle.first_fault.specs.FirstFault.{FirstFault};
+ghost use Rattle.fixed_angle.specs.FirstFault.{FirstFault};
 ghost use Rattle.fixed_angle.specs.Tables.{sine_of, cosine_of, arc_of, draw_of, kind_with};
 ghost use Rattle.fixed_angle.specs.Angle.{angle};
 ghost use Rattle.fixed_angle.specs.TableFile.{tables_of, table_conditions, IsCause};

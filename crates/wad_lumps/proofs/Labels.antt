@@ -3,8 +3,8 @@ use Rattle.std.proofs.Common.{◌≡◌, ◌⊎◌, ◌↔◌, IsTrue, ℕ, zero
 use Rattle.std.proofs.lemmas.Bool.{cases_order, false≢true}
 use Rattle.std.specs.List.{range_with_len}
 use Rattle.std.proofs.lemmas.List.FromFn.{length-map-range_with_len, get_or-map-range_with_len}
-use Rattle.first_fault.specs.FirstFault.{Condition, FirstFault, for_each}
-use Rattle.first_fault.proofs.Order.{first_after, first_within, none_each}
+use Rattle.fixed_angle.specs.FirstFault.{Condition, FirstFault, for_each}
+use Rattle.fixed_angle.proofs.Order.{first_after, first_within, none_each}
 use Rattle.wad_lumps.specs.declared.fault.WadFault.{WadFault}
 use Rattle.wad_lumps.specs.declared.fault.WadFault.TheVariants.{Memory, NoMap}
 use Rattle.wad_lumps.specs.declared.map.MapSpans.{MapSpans}

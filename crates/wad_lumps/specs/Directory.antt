@@ -1,7 +1,7 @@
 -- A WAD file: twelve bytes of head, and a directory of named spans somewhere in the file.
 use Rattle.std.specs.Prelude.{ℕ, ◌+◌, ◌*◌, ◌^◌, ◌<◌, ◌≤◌, ◌||◌, IsTrue, List, [], ◌∷◌, length, take, drop, codes, nat_eq}
 use Rattle.std.specs.List.{starts_with}
-use Rattle.first_fault.specs.FirstFault.{Condition}
+use Rattle.fixed_angle.specs.FirstFault.{Condition}
 use Rattle.wad_lumps.specs.declared.fault.WadFault.{WadFault}
 use Rattle.wad_lumps.specs.declared.fault.WadFault.TheVariants.{WadHead, WadDir}
 use Rattle.wad_lumps.specs.Spelled.{long_at}

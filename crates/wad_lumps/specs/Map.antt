@@ -1,7 +1,7 @@
 -- The lumps of a map: ten entries behind the one that is the map's label.
 use Rattle.std.specs.Prelude.{◌≡◌, ◌≢◌, ◌↔◌, ◌⊎◌, ℕ, ◌+◌, ◌/◌, ◌%◌, ◌<◌, ◌≤◌, Bool, true, false, IsTrue, List, [], ◌∷◌, ◌++◌, length, map, codes, All}
 use Rattle.std.specs.List.{range_with_len}
-use Rattle.first_fault.specs.FirstFault.{Condition, for_each}
+use Rattle.fixed_angle.specs.FirstFault.{Condition, for_each}
 use Rattle.wad_lumps.specs.declared.fault.WadFault.{WadFault}
 use Rattle.wad_lumps.specs.declared.fault.WadFault.TheVariants.{NoMap, LumpRange}
 use Rattle.wad_lumps.specs.declared.map.MapSpans.{MapSpans}

@@ -1,7 +1,7 @@
 //! The head of a WAD file and the entries of its directory.
 
 ghost use Rattle.std.specs.Prelude.{◌≡◌, ◌↔◌, ◌+◌, ◌<◌, ◌≤◌, ◌^◌, length, IsTrue, MatchOption};
-ghost use Rattle.first_fault.specs.FirstFault.{FirstFault};
+ghost use Rattle.fixed_angle.specs.FirstFault.{FirstFault};
 ghost use Rattle.wad_lumps.specs.Spelled.{long_at};
 ghost use Rattle.wad_lumps.specs.Directory.{HasHead, HasDirectory, HasLump, IsWad, entry_count, directory_start, entry_at, file_conditions, name_of, span_of};
 

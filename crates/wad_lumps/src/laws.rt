@@ -1,7 +1,7 @@
 //! That a file says one thing.
 
 ghost use Rattle.std.specs.Prelude.{◌≡◌, ℕ, List, Option};
-ghost use Rattle.first_fault.specs.FirstFault.{FirstFault};
+ghost use Rattle.fixed_angle.specs.FirstFault.{FirstFault};
 ghost use Rattle.wad_lumps.specs.Directory.{file_conditions};
 ghost use Rattle.wad_lumps.specs.Map.{IsMap, map_conditions};
 ghost use Rattle.wad_lumps.specs.declared.fault.WadFault.{WadFault};

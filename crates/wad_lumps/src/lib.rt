@@ -17,6 +17,3 @@ pub use fault::WadFault;
 pub use laws::one_answer;
 pub use map::MapSpans;
 pub use wad::Wad;
-
-#[cfg(test)]
-mod tests;

@@ -1,7 +1,7 @@
 //! Where a map stands in the directory.
 
 ghost use Rattle.std.specs.Prelude.{◌≡◌, ◌≢◌, ◌↔◌, ◌⊎◌, ℕ, ◌+◌, ◌≤◌, ◌<◌, Bool, Some, IsTrue, MatchOption, MatchResult, None, IfOk, IfErr, OnOk};
-ghost use Rattle.first_fault.specs.FirstFault.{FirstFault};
+ghost use Rattle.fixed_angle.specs.FirstFault.{FirstFault};
 ghost use Rattle.wad_lumps.specs.Directory.{IsWad, entry_count};
 ghost use Rattle.wad_lumps.specs.Map.{AreSpans, IsAbsent, IsLast, IsLabel, IsMap, IsOtherForm, lump_conditions, map_conditions, lump_spans, two_digit_label, episode_label};
 ghost use Rattle.wad_lumps.specs.declared.fault.WadFault.TheVariants.{Memory};

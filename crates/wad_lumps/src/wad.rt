@@ -1,7 +1,7 @@
 //! The type of a WAD file.
 
 ghost use Rattle.std.specs.Prelude.{◌≡◌, ◌≢◌, ◌⊎◌, ◌≤◌, List, ℕ, Some, None, Err, IfOk, IfErr, OnOk};
-ghost use Rattle.first_fault.specs.FirstFault.{FirstFault};
+ghost use Rattle.fixed_angle.specs.FirstFault.{FirstFault};
 ghost use Rattle.wad_lumps.specs.Directory.{IsWad, file_conditions};
 ghost use Rattle.wad_lumps.specs.declared.fault.WadFault.TheVariants.{Memory};
 

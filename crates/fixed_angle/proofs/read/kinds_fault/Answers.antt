@@ -1,5 +1,5 @@
 use Rattle.std.proofs.Common.{length}
-use Rattle.first_fault.proofs.Order.{each_step, each_stop}
+use Rattle.fixed_angle.proofs.Order.{each_step, each_stop}
 use Rattle.fixed_angle.specs.TableFile.{kind_conditions}
 use Rattle.fixed_angle.proofs.read.kinds_fault.Goals as goal
 

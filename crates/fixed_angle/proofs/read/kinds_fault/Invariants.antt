@@ -1,5 +1,5 @@
 use Rattle.std.proofs.Common.{None}
-use Rattle.first_fault.specs.FirstFault.{FirstFault, for_each}
+use Rattle.fixed_angle.specs.FirstFault.{FirstFault, for_each}
 use Rattle.fixed_angle.specs.TableFile.{kind_conditions}
 use Rattle.fixed_angle.proofs.read.kinds_fault.Given as goal
 

@@ -1,5 +1,5 @@
 use Rattle.std.proofs.Common.{◌≡◌, ◌+◌, ◌*◌, length, ap, ◌∙◌, List, Some, None, subst}
-use Rattle.first_fault.specs.FirstFault.{FirstFault, for_each}
+use Rattle.fixed_angle.specs.FirstFault.{FirstFault, for_each}
 use Rattle.fixed_angle.specs.declared.kind.Kind.{Kind}
 use Rattle.fixed_angle.specs.TableFile.{kind_at, kind_conditions}
 use Rattle.fixed_angle.proofs.File.{length-entries, kinds_judged, cause_of, all_new}

@@ -1,4 +1,4 @@
-use Rattle.first_fault.proofs.Order.{one_outcome}
+use Rattle.fixed_angle.proofs.Order.{one_outcome}
 use Rattle.wad_lumps.specs.Directory.{file_conditions}
 use Rattle.wad_lumps.specs.Map.{map_conditions}
 use Rattle.wad_lumps.proofs.Labels.{one_map}

@@ -1,6 +1,6 @@
 use Rattle.std.proofs.Common.{◌+◌, refl, inl, inr, arith}
 use Rattle.std.proofs.lemmas.List.FromFn.{map-range_with_len_more}
-use Rattle.first_fault.proofs.Order.{each_step, each_stop}
+use Rattle.fixed_angle.proofs.Order.{each_step, each_stop}
 use Rattle.wad_lumps.specs.declared.fault.WadFault.TheVariants.{LumpRange}
 use Rattle.wad_lumps.specs.Directory.{span_of}
 use Rattle.wad_lumps.specs.Map.{lump_check, lump_conditions}

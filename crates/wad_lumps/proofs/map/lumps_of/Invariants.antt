@@ -1,6 +1,6 @@
 use Rattle.std.proofs.Common.{◌≡◌, ◌+◌, None, map}
 use Rattle.std.specs.List.{range_with_len}
-use Rattle.first_fault.specs.FirstFault.{FirstFault, for_each}
+use Rattle.fixed_angle.specs.FirstFault.{FirstFault, for_each}
 use Rattle.wad_lumps.specs.Directory.{span_of}
 use Rattle.wad_lumps.specs.Map.{lump_check}
 use Rattle.wad_lumps.proofs.map.lumps_of.Given as goal

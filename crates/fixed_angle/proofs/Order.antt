@@ -1,7 +1,7 @@
 -- Laws of conditions that are judged in order.
 use Rattle.std.proofs.Common.{◌≡◌, ℕ, zero, suc, ◌+◌, ◌<◌, List, [], ◌∷◌, ◌++◌, Option, Some, None, refl, sym, ◌∙◌, inl, inr, arith, add-one}
 use Rattle.std.proofs.lemmas.Bool.{cases_lt}
-use Rattle.first_fault.specs.FirstFault.{Condition, FirstFault, for_each}
+use Rattle.fixed_angle.specs.FirstFault.{Condition, FirstFault, for_each}
 
 -- there is one first fault
 pub one_outcome : {F : Type 0} (cs : List (Condition F)) (a b : Option F) → FirstFault cs a → FirstFault cs b → a ≡ b
