@@ -7,8 +7,8 @@ use Rattle.map_geometry.specs.Lists.{Lists, nth_line}
 use Rattle.map_geometry.specs.declared.records.Line.{Line}
 use Rattle.map_geometry.specs.declared.records.DivLine.{DivLine}
 use Rattle.map_geometry.specs.Sides.{plus, side_of_line, side_of_trace}
-use Rattle.block_walk.specs.declared.blocks.Block.{Block}
-use Rattle.block_walk.specs.Near.{joined, near}
+use Rattle.map_geometry.specs.declared.blocks.Block.{Block}
+use Rattle.block_walk.specs.Near.{near_all, near}
 use Rattle.block_walk.specs.Steps.{is_marked, IsClear, Meets, fresh}
 use Rattle.block_walk.specs.Traces.{is_long, is_crossed, fraction_at, crossed}
 use Rattle.block_walk.proofs.Fresh.{fresh_first_ones, All-fresh}
@@ -36,11 +36,11 @@ All-crossed P l way (line ∷ lines) all = with_first P l way line lines (fracti
 
 module _ (l : Lists) (way : DivLine) (met : List ℕ) (blocks : List Block) (clear : IsClear met) where
   pub crossed_near : (lists new : List ℕ) (out : List (ℤ × ℕ)) → Meets (crossed l way) l lists met new [] out blocks → out ≡ crossed l way (near l blocks)
-  crossed_near lists new out meets = meets.lines.more ∙ ap (crossed l way) (fresh_first_ones (is_marked met) clear (joined l blocks))
+  crossed_near lists new out meets = meets.lines.more ∙ ap (crossed l way) (fresh_first_ones (is_marked met) clear (near_all l blocks))
 
   pub crossed_there : (lists new : List ℕ) (out : List (ℤ × ℕ)) → Meets (crossed l way) l lists met new [] out blocks → All (λ pair. pair.1 < length l.lines) out
   crossed_there lists new out meets =
-      rw meets.lines.more (All-crossed (λ line. line < length l.lines) l way (fresh (is_marked met) (joined l blocks)) (All-fresh (λ line. line < length l.lines) (is_marked met) (joined l blocks) meets.there))
+      rw meets.lines.more (All-crossed (λ line. line < length l.lines) l way (fresh (is_marked met) (near_all l blocks)) (All-fresh (λ line. line < length l.lines) (is_marked met) (near_all l blocks) meets.there))
 
-  pub crossed_many : 128 < length (crossed l way (fresh (is_marked met) (joined l blocks))) → 128 < length (crossed l way (near l blocks))
-  crossed_many many = rw (fresh_first_ones (is_marked met) clear (joined l blocks)) at many
+  pub crossed_many : 128 < length (crossed l way (fresh (is_marked met) (near_all l blocks))) → 128 < length (crossed l way (near l blocks))
+  crossed_many many = rw (fresh_first_ones (is_marked met) clear (near_all l blocks)) at many

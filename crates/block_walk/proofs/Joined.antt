@@ -1,28 +1,49 @@
 -- The lists of blocks, joined, and those that were walked.
-use Rattle.std.proofs.Common.{◌≡◌, ℕ, ◌<◌, true, false, ◌||◌, eqb, ltb, cond, List, [], ◌∷◌, ◌++◌, length, Some, None, refl, sym, ap, ◌∙◌, inl, inr}
-use Rattle.std.specs.List.{filter_map, flat_map}
+use Rattle.std.proofs.Common.{◌≡◌, ℕ, ◌<◌, true, false, ◌||◌, eqb, ltb, cond, List, [], ◌∷◌, ◌++◌, length, Option, Some, None, refl, sym, ap, ◌∙◌, inl, inr}
+use Rattle.std.specs.List.{flat_map}
+use Rattle.std.specs.Option.{option_map_or, option_map}
 use Rattle.std.proofs.lemmas.Bool.{cases_Bool, false≢true}
 use Rattle.std.proofs.lemmas.Bool.Decides.{Decides-eqb}
 use Rattle.std.proofs.lemmas.List.{append-nil}
 use Rattle.std.proofs.lemmas.List.Concat.{flat_map-append}
-use Rattle.std.proofs.lemmas.List.Elements.{All-nil, filter_map-append}
+use Rattle.std.proofs.lemmas.List.Elements.{All-nil, All-append}
 use Rattle.std.proofs.lemmas.List.Folds.{list_any-append}
-use Rattle.map_geometry.specs.Lists.{Lists}
-use Rattle.map_geometry.specs.Blocks.{block_list}
-use Rattle.map_geometry.specs.Level.{IsCellIn}
-use Rattle.block_walk.specs.declared.blocks.Block.{Block}
-use Rattle.block_walk.specs.Near.{place_of, joined}
-use Rattle.block_walk.specs.Steps.{is_marked, has, Marks, AreWalked, Adds, Meets}
+use Rattle.map_geometry.specs.declared.blocks.BlockBox.{BlockBox}
+use Rattle.map_geometry.specs.Lists.{Lists, nth_cell}
+use Rattle.map_geometry.specs.Blocks.{block_list, block_lines, cell_of, blocks_in, cut_to_grid}
+use Rattle.map_geometry.specs.Level.{IsCellIn, HasLines}
+use Rattle.map_geometry.proofs.Walked.{cut_blocks}
+use Rattle.map_geometry.specs.declared.blocks.Block.{Block}
+use Rattle.block_walk.specs.Near.{place_of, near_all}
+use Rattle.block_walk.specs.Steps.{is_marked, has, Marks, AreWalked, Adds, Meets, AreLines}
 use Rattle.block_walk.proofs.Fresh.{IsKept, fresh_all_seen, Marks_all_seen, Marks-nil}
 
-pub joined-append : (l : Lists) (xs ys : List Block) → joined l (xs ++ ys) ≡ joined l xs ++ joined l ys
-joined-append l xs ys = ap (flat_map (block_list l.words)) (filter_map-append (place_of l) xs ys) ∙ flat_map-append (block_list l.words) (filter_map (place_of l) xs) (filter_map (place_of l) ys)
+pub near_all-append : (l : Lists) (xs ys : List Block) → near_all l (xs ++ ys) ≡ near_all l xs ++ near_all l ys
+near_all-append l xs ys = flat_map-append (λ block. block_lines l block.column block.row) xs ys
 
-pub joined_none : (l : Lists) (block : Block) → place_of l block ≡ None → joined l (block ∷ []) ≡ []
-joined_none l block none = rw none refl
+through : (f : ℕ → List ℕ) (g : ℕ → ℕ) (cell : Option ℕ) → option_map_or (λ c. f (g c)) cell [] ≡ option_map_or f (option_map g cell) []
+through f g None = refl
+through f g (Some c) = refl
 
-pub joined_one : (l : Lists) (block : Block) (place : ℕ) → place_of l block ≡ Some place → joined l (block ∷ []) ≡ block_list l.words place
-joined_one l block place some = rw some (append-nil (block_list l.words place))
+-- a block's list by the place at which it begins
+by_place : (l : Lists) (block : Block) → block_lines l block.column block.row ≡ option_map_or (block_list l.words) (place_of l block) []
+unfolding place_of
+by_place l block = through (block_list l.words) (nth_cell l) (cell_of l.width l.height block.column block.row)
+
+pub near_all_none : (l : Lists) (block : Block) → place_of l block ≡ None → near_all l (block ∷ []) ≡ []
+near_all_none l block none = ap (λ xs. xs ++ []) (by_place l block ∙ ap (λ (place : Option ℕ). option_map_or (block_list l.words) place []) none)
+
+pub near_all_one : (l : Lists) (block : Block) (place : ℕ) → place_of l block ≡ Some place → near_all l (block ∷ []) ≡ block_list l.words place
+near_all_one l block place some =
+    ap (λ xs. xs ++ []) (by_place l block ∙ ap (λ (place : Option ℕ). option_map_or (block_list l.words) place []) some) ∙ append-nil (block_list l.words place)
+
+-- blocks outside the grid have no lines
+pub near_all_cut : (l : Lists) (box : BlockBox) → near_all l (blocks_in box) ≡ near_all l (blocks_in (cut_to_grid l.width l.height box))
+near_all_cut l box = cut_blocks (λ block. block_lines l block.column block.row) l.width l.height (λ column row outside. rw outside refl) box
+
+pub near_all_there : (l : Lists) → HasLines l → (blocks : List Block) → AreLines l (near_all l blocks)
+near_all_there l lines [] = All-nil (λ line. line < length l.lines)
+near_all_there l lines (block ∷ blocks) = All-append (λ line. line < length l.lines) (block_lines l block.column block.row) (near_all l blocks) (lines.each block.column block.row) (near_all_there l lines blocks)
 
 -- ---- no walked list has a line that is not marked
 
@@ -69,7 +90,7 @@ walked_added l old new walked walked' place marks are is = rw is (elim (cases_Bo
 module _ {X : Type 0} (keep : List ℕ → List X) (kept : IsKept keep) (l : Lists) (block : Block) (lists old : List ℕ) (before : List X) (are : AreWalked l old lists) where
   pub meets_nothing : place_of l block ≡ None → Meets keep l lists old old before before (block ∷ [])
   meets_nothing none =
-      let empty = joined_none l block none in
+      let empty = near_all_none l block none in
       record {
         walked = are;
         lines = rw empty (record { marks = Marks-nil old; more = sym (append-nil before) ∙ ap (λ zs. before ++ zs) (sym kept.nil) });
@@ -78,7 +99,7 @@ module _ {X : Type 0} (keep : List ℕ → List X) (kept : IsKept keep) (l : Lis
 
   pub meets_again : (place : ℕ) → place_of l block ≡ Some place → IsCellIn l place → has lists place ≡ true → Meets keep l lists old old before before (block ∷ [])
   meets_again place some sound within =
-      let one = joined_one l block place some in
+      let one = near_all_one l block place some in
       let seen : (line : ℕ) → has (block_list l.words place) line ≡ true → is_marked old line ≡ true = λ line on. are.each place line within on in
       record {
         walked = are;
@@ -92,5 +113,5 @@ module _ {X : Type 0} (keep : List ℕ → List X) (kept : IsKept keep) (l : Lis
   pub meets_list : (new lists' : List ℕ) (after : List X) (place : ℕ) → place_of l block ≡ Some place → IsCellIn l place → Adds keep old new before after (block_list l.words place)
       → lists' ≡ cond (ltb (length lists) 64) (lists ++ place ∷ []) lists → Meets keep l lists' old new before after (block ∷ [])
   meets_list new lists' after place some sound adds is =
-      let one = joined_one l block place some in
+      let one = near_all_one l block place some in
       record { walked = walked_added l old new lists lists' place adds.marks are is; lines = rw one adds; there = rw one sound.entries }

@@ -5,6 +5,6 @@ pub mod Descent
 pub mod Fresh
 pub mod Joined
 pub mod Order
+pub mod Repeats
 pub mod Slopes
-pub mod Spans
 pub mod Walks

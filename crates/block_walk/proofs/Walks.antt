@@ -1,96 +1,64 @@
 -- A walk along blocks.
-use Rattle.std.proofs.Common.{◌≡◌, ℕ, ◌<◌, length, true, false, ℤ, pos, ◌+ℤ◌, List, [], ◌∷◌, ◌++◌, map, ap, ◌∙◌, suc, ◌-◌, ◌+◌, ◌≤◌, cond, refl, arith}
+use Rattle.std.proofs.Common.{◌≡◌, ℕ, ◌<◌, length, true, false, ℤ, pos, ◌+ℤ◌, List, [], ◌∷◌, ◌++◌, map, sym, ap, ◌∙◌, suc, ◌-◌, ◌+◌, ◌≤◌, cond, refl, arith}
 use Rattle.std.specs.Prelude.{int_le}
 use Rattle.std.specs.List.{flat_map}
 use Rattle.std.proofs.lemmas.List.Elements.{All-nil, All-append}
 use Rattle.map_geometry.specs.Lists.{Lists}
-use Rattle.block_walk.specs.declared.blocks.Block.{Block}
-use Rattle.block_walk.specs.declared.blocks.BlockBox.{BlockBox}
+use Rattle.map_geometry.specs.declared.blocks.Block.{Block}
+use Rattle.map_geometry.specs.declared.blocks.BlockBox.{BlockBox}
+use Rattle.map_geometry.specs.Blocks.{blocks_in, cut_to_grid}
 use Rattle.block_walk.specs.declared.walk.Walk.{Walk}
 use Rattle.block_walk.specs.Visits.{is_at_end, next_of, visited}
-use Rattle.block_walk.specs.Near.{span, column_of, joined, near}
+use Rattle.block_walk.specs.Near.{near_all, first_ones, near}
 use Rattle.block_walk.specs.Steps.{is_marked, IsClear, AreLines, AreWalked, Meets, itself, fresh}
 use Rattle.block_walk.proofs.Fresh.{fresh_first_ones, All-fresh, itself_kept, IsKept, Leads, leads_begin, leads_step, leads_end, leads_many}
-use Rattle.block_walk.proofs.Joined.{joined-append}
-use Rattle.block_walk.proofs.Spans.{span_none, span_first}
+use Rattle.block_walk.proofs.Joined.{near_all-append, near_all_cut}
 
 -- of all blocks of a walk the rest is ahead
 pub record IsOnBlocks {X : Type 0} (keep : List ℕ → List X) (l : Lists) (lists : List ℕ) (old met : List ℕ) (before out : List X) (all rest : List Block) : Type 0 where
   pub walked : AreWalked l met lists
-  pub leads : Leads keep old met before out (joined l all) (joined l rest)
-  pub there : AreLines l (joined l rest) → AreLines l (joined l all)
+  pub leads : Leads keep old met before out (near_all l all) (near_all l rest)
+  pub there : AreLines l (near_all l rest) → AreLines l (near_all l all)
 
 pub on_blocks_begin : {X : Type 0} (keep : List ℕ → List X) (l : Lists) (lists met : List ℕ) (out : List X) (all : List Block) → AreWalked l met lists → IsOnBlocks keep l lists met met out out all all
-on_blocks_begin keep l lists met out all are = record { walked = are; leads = leads_begin keep met out (joined l all); there = λ lines. lines }
+on_blocks_begin keep l lists met out all are = record { walked = are; leads = leads_begin keep met out (near_all l all); there = λ lines. lines }
 
 pub on_blocks_step : {X : Type 0} (keep : List ℕ → List X) → IsKept keep → (l : Lists) (lists lists' old met new : List ℕ) (before out next : List X) (all part rest : List Block)
     → IsOnBlocks keep l lists old met before out all (part ++ rest) → Meets keep l lists' met new out next part → IsOnBlocks keep l lists' old new before next all rest
 on_blocks_step keep kept l lists lists' old met new before out next all part rest on meets =
-    let split = joined-append l part rest in
-    let ahead : Leads keep old met before out (joined l all) (joined l part ++ joined l rest) = rw split at on.leads in
+    let split = near_all-append l part rest in
+    let ahead : Leads keep old met before out (near_all l all) (near_all l part ++ near_all l rest) = rw split at on.leads in
     record {
       walked = meets.walked;
-      leads = leads_step keep kept old met new before out next (joined l all) (joined l part) (joined l rest) ahead meets.lines;
-      there = λ more. on.there (rw split (All-append (λ line. line < length l.lines) (joined l part) (joined l rest) meets.there more));
+      leads = leads_step keep kept old met new before out next (near_all l all) (near_all l part) (near_all l rest) ahead meets.lines;
+      there = λ more. on.there (rw split (All-append (λ line. line < length l.lines) (near_all l part) (near_all l rest) meets.there more));
     }
 
 pub on_blocks_end : {X : Type 0} (keep : List ℕ → List X) → IsKept keep → (l : Lists) (lists old met : List ℕ) (before out : List X) (all rest : List Block) → IsOnBlocks keep l lists old met before out all rest
     → rest ≡ [] → Meets keep l lists old met before out all
 on_blocks_end keep kept l lists old met before out all rest on none = record {
   walked = on.walked;
-  lines = leads_end keep kept old met before out (joined l all) (rw none at on.leads);
+  lines = leads_end keep kept old met before out (near_all l all) (rw none at on.leads);
   there = on.there (rw none (All-nil (λ line. line < length l.lines)));
 }
 
--- ---- the blocks of a column from a row on, and of a box from a column on
-
-pub column_first : (bottom top column : ℤ) → int_le bottom top ≡ true → column_of bottom top column ≡ (record { column = column; row = bottom } ∷ []) ++ column_of (bottom +ℤ pos 1) top column
-column_first bottom top column within = ap (map (λ row. record { column = column; row = row })) (span_first bottom top within)
-
-pub column_none : (bottom top column : ℤ) → int_le bottom top ≡ false → column_of bottom top column ≡ []
-column_none bottom top column above = ap (map (λ row. record { column = column; row = row })) (span_none bottom top above)
-
--- the blocks of a box from a column on
-abbrev pub blocks_from : BlockBox → ℤ → List Block
-blocks_from box column = flat_map (column_of box.bottom box.top) (span column box.right)
-
-pub box_first : (box : BlockBox) (column : ℤ) → int_le column box.right ≡ true → blocks_from box column ≡ column_of box.bottom box.top column ++ blocks_from box (column +ℤ pos 1)
-box_first box column within = ap (flat_map (column_of box.bottom box.top)) (span_first column box.right within)
-
-pub box_none : (box : BlockBox) (column : ℤ) → int_le column box.right ≡ false → blocks_from box column ≡ []
-box_none box column above = ap (flat_map (column_of box.bottom box.top)) (span_none column box.right above)
-
--- ---- one row of a column, and one column of a box
-
-module _ (l : Lists) (lists lists' old met new before out next : List ℕ) (all : List Block) where
-  pub column_step : (top column row : ℤ) → int_le row top ≡ true → IsOnBlocks itself l lists old met before out all (column_of row top column)
-      → Meets itself l lists' met new out next (record { column = column; row = row } ∷ []) → IsOnBlocks itself l lists' old new before next all (column_of (row +ℤ pos 1) top column)
-  column_step top column row within on meets =
-      on_blocks_step itself itself_kept l lists lists' old met new before out next all (record { column = column; row = row } ∷ []) (column_of (row +ℤ pos 1) top column)
-      (rw (column_first row top column within) at on) meets
-
-  pub box_step : (box : BlockBox) (column : ℤ) → int_le column box.right ≡ true → IsOnBlocks itself l lists old met before out all (blocks_from box column)
-      → Meets itself l lists' met new out next (column_of box.bottom box.top column) → IsOnBlocks itself l lists' old new before next all (blocks_from box (column +ℤ pos 1))
-  box_step box column within on meets =
-      on_blocks_step itself itself_kept l lists lists' old met new before out next all (column_of box.bottom box.top column) (blocks_from box (column +ℤ pos 1))
-      (rw (box_first box column within) at on) meets
-
 -- ---- what was met from the start
 
-pub meets_near : (l : Lists) (lists met new out : List ℕ) (blocks : List Block) → IsClear met → Meets itself l lists met new [] out blocks → out ≡ near l blocks
-meets_near l lists met new out blocks clear meets = meets.lines.more ∙ fresh_first_ones (is_marked met) clear (joined l blocks)
+pub meets_near : (l : Lists) (lists met new out : List ℕ) (box : BlockBox) → IsClear met → Meets itself l lists met new [] out (blocks_in (cut_to_grid l.width l.height box)) → out ≡ near l (blocks_in box)
+meets_near l lists met new out box clear meets =
+    meets.lines.more ∙ fresh_first_ones (is_marked met) clear (near_all l (blocks_in (cut_to_grid l.width l.height box))) ∙ ap first_ones (sym (near_all_cut l box))
 
 pub meets_there : (l : Lists) (lists met new out : List ℕ) (blocks : List Block) → Meets itself l lists met new [] out blocks → AreLines l out
-meets_there l lists met new out blocks meets = rw meets.lines.more (All-fresh (λ line. line < length l.lines) (is_marked met) (joined l blocks) meets.there)
+meets_there l lists met new out blocks meets = rw meets.lines.more (All-fresh (λ line. line < length l.lines) (is_marked met) (near_all l blocks) meets.there)
 
 -- ---- the blocks that a trace visits
 
 -- what is too much in some blocks is too much in the end
 pub on_blocks_many : {X : Type 0} (keep : List ℕ → List X) → IsKept keep → (l : Lists) (lists old met : List ℕ) (before out : List X) (all part rest : List Block) (most : ℕ)
-    → IsOnBlocks keep l lists old met before out all (part ++ rest) → most < length (out ++ keep (fresh (is_marked met) (joined l part)))
-    → most < length (before ++ keep (fresh (is_marked old) (joined l all)))
+    → IsOnBlocks keep l lists old met before out all (part ++ rest) → most < length (out ++ keep (fresh (is_marked met) (near_all l part)))
+    → most < length (before ++ keep (fresh (is_marked old) (near_all l all)))
 on_blocks_many keep kept l lists old met before out all part rest most on many =
-    leads_many keep kept old met before out (joined l all) (joined l part) (joined l rest) most (rw (joined-append l part rest) at on.leads) many
+    leads_many keep kept old met before out (near_all l all) (near_all l part) (near_all l rest) most (rw (near_all-append l part rest) at on.leads) many
 
 abbrev pub visits_behind : ℕ → Walk → List Block
 visits_behind more walk = cond (is_at_end walk) [] (visited more (next_of walk))
@@ -123,5 +91,5 @@ module _ {X : Type 0} (keep : List ℕ → List X) (kept : IsKept keep) (l : Lis
       let after = on_blocks_step keep kept l lists lists' old met new before out next all (walk.block ∷ []) (visits_behind (64 - (visit + 1)) walk) behind meets in
       on_blocks_end keep kept l lists' old new before next all [] (rw ends at after) refl
 
-  pub visit_many : (most : ℕ) → most < length (out ++ keep (fresh (is_marked met) (joined l (walk.block ∷ [])))) → most < length (before ++ keep (fresh (is_marked old) (joined l all)))
+  pub visit_many : (most : ℕ) → most < length (out ++ keep (fresh (is_marked met) (near_all l (walk.block ∷ [])))) → most < length (before ++ keep (fresh (is_marked old) (near_all l all)))
   visit_many most many = on_blocks_many keep kept l lists old met before out all (walk.block ∷ []) (visits_behind (64 - (visit + 1)) walk) most behind many

@@ -1,7 +1,7 @@
--- The subsector of a place.
+-- The subsector and the sector of a place.
 use Rattle.std.specs.Prelude.{ℕ, zero, suc, ◌-◌, ◌==◌, ℤ, nat_lt, length, if◌then◌else◌}
 use Rattle.map_geometry.specs.declared.records.Node.{Node}
-use Rattle.map_geometry.specs.Lists.{Lists, nth_node}
+use Rattle.map_geometry.specs.Lists.{Lists, nth_node, nth_subsector}
 use Rattle.map_geometry.specs.Sides.{side_of_node}
 
 -- the child of a node on whose side a place is
@@ -22,3 +22,7 @@ unfoldable pub subsector_of : Lists → ℤ → ℤ → ℕ
 subsector_of l x y =
     if length l.nodes == 0 then 0
     else subsector_below l x y (length l.nodes) (child_of (nth_node l (length l.nodes - 1)) x y)
+
+-- the sector of a place: that of its subsector
+unfoldable pub sector_of_place : Lists → ℤ → ℤ → ℕ
+sector_of_place l x y = (nth_subsector l (subsector_of l x y)).sector

@@ -4,8 +4,8 @@ use Rattle.std.specs.Int.{bit_at}
 use Rattle.std.specs.List.{list_any}
 use Rattle.map_geometry.specs.Lists.{Lists}
 use Rattle.map_geometry.specs.Blocks.{block_list}
-use Rattle.block_walk.specs.declared.blocks.Block.{Block}
-use Rattle.block_walk.specs.Near.{joined}
+use Rattle.map_geometry.specs.declared.blocks.Block.{Block}
+use Rattle.block_walk.specs.Near.{near_all}
 
 -- whether a line's bit is set
 unfoldable pub is_marked : List ℕ → ℕ → Bool
@@ -52,5 +52,5 @@ pub record AreWalked (l : Lists) (met walked : List ℕ) : Type 0 where
 -- A walk met the lines of blocks. It has walked lists whose lines are all marked, and the blocks' lines are there.
 pub record Meets {X : Type 0} (keep : List ℕ → List X) (l : Lists) (lists old new : List ℕ) (before after : List X) (blocks : List Block) : Type 0 where
   pub walked : AreWalked l new lists
-  pub lines : Adds keep old new before after (joined l blocks)
-  pub there : AreLines l (joined l blocks)
+  pub lines : Adds keep old new before after (near_all l blocks)
+  pub there : AreLines l (near_all l blocks)

@@ -5,7 +5,7 @@ use Rattle.std.specs.Ordering.{int_eq}
 use Rattle.fixed_angle.specs.Fixed.{units_of, mul, div}
 use Rattle.map_geometry.specs.Blocks.{blocks_below}
 use Rattle.map_geometry.specs.Sides.{less, plus}
-use Rattle.block_walk.specs.declared.blocks.Block.{Block}
+use Rattle.map_geometry.specs.declared.blocks.Block.{Block}
 use Rattle.block_walk.specs.declared.walk.Axis.{Axis}
 use Rattle.block_walk.specs.declared.walk.Walk.{Walk}
 

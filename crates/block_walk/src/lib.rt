@@ -6,16 +6,15 @@ mod fault;
 mod lines;
 mod lists;
 mod marks;
+mod near;
 mod numbers;
 mod places;
 mod traces;
 mod walk;
 
-pub use blocks::{Block, BlockBox, blocks_of};
 pub use fault::TraceFault;
 pub use lines::lines_in;
-pub use places::subsector_at;
+pub use map_geometry::{Block, BlockBox, blocks_of};
+pub use near::{NearLines, near_all};
+pub use places::{sector_of_place, subsector_at};
 pub use traces::trace;
-
-#[cfg(test)]
-mod tests;

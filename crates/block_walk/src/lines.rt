@@ -1,15 +1,15 @@
 //! The lines in the blocks of a box.
 ghost use Rattle.std.specs.Prelude.{◌≡◌, ◌/◌, ◌<◌, ◌++◌, ◌∷◌, [], length, IfSome, All, OnOk, None};
 ghost use Rattle.map_geometry.specs.Level.{IsCellIn};
-ghost use Rattle.map_geometry.specs.Blocks.{block_list};
-ghost use Rattle.block_walk.specs.Near.{column_of, blocks_in, box_of, near};
+ghost use Rattle.map_geometry.specs.Blocks.{block_list, blocks_in, blocks_of};
+ghost use Rattle.block_walk.specs.Near.{near};
 ghost use Rattle.block_walk.specs.Steps.{HasBits, IsClear, AreLines, AreWalked, Adds, Meets, itself};
 
-use crate::blocks::{Block, BlockBox, blocks_of, list_of};
+use crate::blocks::list_of;
 use crate::lists::Walked;
 use crate::marks::mark;
 use doom_edge::Memory;
-use map_geometry::{Area, Level};
+use map_geometry::{Area, Block, BlockBox, Blocks, Level, blocks_of};
 
 /// The word that ends a list.
 pub const END_MARK: u16 = 0xFFFF;
@@ -67,11 +67,10 @@ fn add_block(
     Ok(())
 }
 
-/// Appends the lines of a part of a column that were not met.
-fn add_column(
+/// Appends the lines of blocks that were not met.
+fn add_blocks(
     level: &Level,
-    blocks: &BlockBox,
-    column: i32,
+    blocks: Blocks,
     walked: &mut Walked,
     met: &mut [u64],
     out: &mut Vec<u32>,
@@ -79,30 +78,10 @@ fn add_column(
     requires bits { HasBits level.now met.old }
     requires walked { AreWalked level.now met.old walked.old }
     ensures { OnOk result
-        (Meets itself level.now walked.new met.old met.new out.old.items out.new.items
-        (column_of blocks.now.bottom blocks.now.top column)) }
+        (Meets itself level.now walked.new met.old met.new out.old.items out.new.items blocks) }
 {
-    for row in blocks.bottom..=blocks.top {
-        add_block(level, Block { column, row }, walked, met, out)?;
-    }
-    Ok(())
-}
-
-/// Appends the lines of a box of blocks that were not met.
-fn add_box(
-    level: &Level,
-    blocks: &BlockBox,
-    walked: &mut Walked,
-    met: &mut [u64],
-    out: &mut Vec<u32>,
-) -> Result<(), Memory>
-    requires bits { HasBits level.now met.old }
-    requires walked { AreWalked level.now met.old walked.old }
-    ensures { OnOk result
-        (Meets itself level.now walked.new met.old met.new out.old.items out.new.items (blocks_in blocks.now)) }
-{
-    for column in blocks.left..=blocks.right {
-        add_column(level, blocks, column, walked, met, out)?;
+    for block in blocks {
+        add_block(level, block, walked, met, out)?;
     }
     Ok(())
 }
@@ -115,7 +94,7 @@ fn fill(level: &Level, blocks: &BlockBox, met: &mut [u64], out: &mut Vec<u32>) -
     ensures there { OnOk result (AreLines level.now out.new.items) }
 {
     out.clear();
-    add_box(level, blocks, &mut Walked::new(), met, out)?;
+    add_blocks(level, level.blocks_in(blocks), &mut Walked::new(), met, out)?;
     Ok(())
 }
 
@@ -133,9 +112,10 @@ pub const MANY_WORDS: usize = 256;
 pub const ALL_WORDS: usize = 1024;
 
 /// Replaces `out` by the lines in the blocks that an area touches: the blocks' lists, column by column from the
-/// west and each column from the south, without later repeats. Nothing is said of `out` after `Memory`.
+/// west and each column from the south, without later repeats. Blocks outside the grid have none, and cost nothing.
+/// Nothing is said of `out` after `Memory`.
 pub fn lines_in(level: &Level, area: &Area, out: &mut Vec<u32>) -> Result<(), Memory>
-    ensures lines { OnOk result (out.new.items ≡ near level.now (blocks_in (box_of level.now area.now))) }
+    ensures lines { OnOk result (out.new.items ≡ near level.now (blocks_in (blocks_of level.now area.now))) }
     ensures there { OnOk result (All (λ line. line < length level.now.lines) out.new.items) }
 {
     let blocks = blocks_of(level, area);

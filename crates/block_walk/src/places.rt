@@ -1,6 +1,6 @@
-//! The subsector of a place.
+//! The subsector and the sector of a place.
 ghost use Rattle.std.specs.Prelude.{◌≡◌, ◌<◌, length};
-ghost use Rattle.block_walk.specs.Places.{child_of, subsector_of};
+ghost use Rattle.block_walk.specs.Places.{child_of, subsector_of, sector_of_place};
 
 use map_geometry::{Level, Node, node_side};
 
@@ -38,4 +38,13 @@ pub fn subsector_at(level: &Level, x: i32, y: i32) -> u32
         child = child_at(&level.node(usize::from(child)), x, y);
     }
     unreachable!()
+}
+
+/// The sector of a place, in fixed point: that of its subsector.
+#[tactic(auto, unfolding(crate::specs::Places::sector_of_place))]
+pub fn sector_of_place(level: &Level, x: i32, y: i32) -> u32
+    ensures place { result ≡ sector_of_place level.now x y }
+    ensures there { result < length level.now.sectors }
+{
+    level.subsector(subsector_at(level, x, y) as usize).sector
 }

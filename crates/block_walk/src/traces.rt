@@ -2,19 +2,19 @@
 ghost use Rattle.std.specs.Prelude.{◌≡◌, ◌/◌, ◌<◌, ◌≤◌, ◌++◌, ◌∷◌, [], length, All, OnOk, IfErr, IsErrOf};
 ghost use Rattle.map_geometry.specs.Level.{IsCellIn};
 ghost use Rattle.map_geometry.specs.Blocks.{block_list};
-ghost use Rattle.block_walk.specs.Near.{joined, near};
+ghost use Rattle.block_walk.specs.Near.{near_all, near};
 ghost use Rattle.block_walk.specs.Visits.{visited};
 ghost use Rattle.block_walk.specs.Steps.{is_marked, HasBits, IsClear, AreWalked, Adds, Meets, fresh};
 ghost use Rattle.block_walk.specs.Traces.{off_border, way_of, walk_of, is_long, is_crossed, fraction_at, crossed, intercepts_on, intercepts_of, in_order, reached};
 
-use crate::blocks::{Block, list_of};
+use crate::blocks::list_of;
 use crate::fault::TraceFault;
 use crate::lines::{ALL_WORDS, END_MARK, FEW_LINES, FEW_WORDS, MANY_LINES, MANY_WORDS};
 use crate::lists::Walked;
 use crate::marks::mark;
 use crate::numbers::{difference, sum};
 use crate::walk::Walk;
-use map_geometry::{DivLine, Level, Line, divline_side, intercept, line_side};
+use map_geometry::{Block, DivLine, Level, Line, divline_side, intercept, line_side};
 
 /// One in fixed point: a map unit, and the fraction of a trace's end.
 const ONE: i32 = 65536;
@@ -210,7 +210,7 @@ fn cross_block(
     ensures few { OnOk result (length out.new.items ≤ 128) }
     ensures many { IsErrOf result TraceFault.Intercepts
         → 128 < length (out.old.items
-        ++ crossed level.now way.now (fresh (is_marked met.old) (joined level.now (block ∷ [])))) }
+        ++ crossed level.now way.now (fresh (is_marked met.old) (near_all level.now (block ∷ [])))) }
 {
     let Some(place) = list_of(level, block) else {
         return Ok(());
@@ -240,7 +240,7 @@ fn cross_visited(
     ensures few { OnOk result (length out.new.items ≤ 128) }
     ensures many { IsErrOf result TraceFault.Intercepts
         → 128 < length (out.old.items
-        ++ crossed level.now way.now (fresh (is_marked met.old) (joined level.now (visited 64 begin)))) }
+        ++ crossed level.now way.now (fresh (is_marked met.old) (near_all level.now (visited 64 begin)))) }
 {
     let mut walk = begin;
     for _visit in 0..VISITS {

@@ -1,21 +1,23 @@
 -- What follows of a level from the conditions that were judged.
-use Rattle.std.proofs.Common.{subst, ap, ◌∙◌, length-take, length-drop, slice_index, slice_index_or, ◌≡◌, ◌⊎◌, ℕ, zero, suc, ◌+◌, ◌*◌, ◌<◌, ◌≤◌, ◌++◌, length, Option, Some, None, inl, inr, arith, IsSome, IfSome}
+use Rattle.std.proofs.Common.{subst, mul-le-mul_right, ap, ◌∙◌, length-take, length-drop, slice_index, slice_index_or, ◌≡◌, ◌⊎◌, ℕ, zero, suc, ◌+◌, ◌*◌, ◌<◌, ◌≤◌, ◌++◌, length, Option, Some, None, inl, inr, arith, IsSome, IfSome}
 use Rattle.std.specs.Option.{option_map_or, option_map}
-use Rattle.std.specs.Prelude.{pos, ◌<ℤ◌}
+use Rattle.std.specs.Prelude.{ℤ, pos, ◌<ℤ◌, true, false, ◌&&◌, int_le, int_lt, unsigned_abs}
+use Rattle.std.proofs.lemmas.Bool.{cases_Bool, false≢true}
+use Rattle.std.proofs.lemmas.List.Elements.{All-nil}
 use Rattle.std.proofs.lemmas.Int.{ints}
 use Rattle.std.proofs.lemmas.List.{get_or_read}
-use Rattle.first_fault.specs.FirstFault.{FirstFault, for_each}
-use Rattle.first_fault.proofs.Order.{none_split, none_each}
+use Rattle.fixed_angle.specs.FirstFault.{FirstFault, for_each}
+use Rattle.fixed_angle.proofs.Order.{none_split, none_each}
 use Rattle.map_geometry.specs.declared.records.Line.{Line}
 use Rattle.map_geometry.specs.declared.records.Subsector.{Subsector}
 use Rattle.map_geometry.specs.declared.records.Node.{Node}
 use Rattle.map_geometry.specs.declared.fault.LevelFault.{LevelFault}
 use Rattle.map_geometry.specs.Lists.{Lists, nth_line, nth_seg, nth_subsector, nth_node, nth_cell, no_line, no_subsector, no_node}
 use Rattle.map_geometry.specs.Derived.{signed_word, sector_of_side, side_of}
-use Rattle.map_geometry.specs.Blocks.{HasBlockShape}
+use Rattle.map_geometry.specs.Blocks.{HasBlockShape, is_in_grid, cell_number}
 use Rattle.map_geometry.specs.Nodes.{WalksEnd}
 use Rattle.map_geometry.specs.Conditions.{back_faces_sector, line_conditions, some_subsector, subsector_conditions, node_conditions, no_loop, block_shape, cell_conditions, line_checks, subsector_checks, node_checks, block_checks, conditions}
-use Rattle.map_geometry.specs.Level.{IsLevel, IsLineIn, IsSubsectorIn, IsNodeIn, IsCellIn}
+use Rattle.map_geometry.specs.Level.{IsLevel, IsLineIn, IsSubsectorIn, IsNodeIn, IsCellIn, HasLines}
 
 -- where none is false, the first holds, and none behind it is false
 first_holds : {P Q : Type 0} {fault : LevelFault} → (P × Q) ⊎ ((P → ⊥) × (None ≡ Some fault)) → P × Q
@@ -157,6 +159,36 @@ size_of l level =
       cells = ap length grid.cells ∙ simp (length-take, length-drop) (omega arith);
     }
 
+abs_below : (count : ℕ) (z : ℤ) → (int_le (pos 0) z && int_lt z (pos count)) ≡ true → unsigned_abs z < count
+abs_below count z inside = grind (arith, ints, inside)
+
+row_and_column : (width height column row : ℕ) → column < width → row < height → row * width + column < width * height
+row_and_column width height column row west south =
+    let rows : (row + 1) * width ≤ height * width = mul-le-mul_right width (omega (arith, south)) in
+    omega (arith, rows, west)
+
+-- a block of the grid is one of the cells
+cell_below : (width height : ℕ) (column row : ℤ) → is_in_grid width height column row ≡ true → cell_number width column row < width * height
+cell_below width height column row inside =
+    elim (cases_Bool (int_le (pos 0) column && int_lt column (pos width))) [
+      | inl columns ↦
+          let rows : (int_le (pos 0) row && int_lt row (pos height)) ≡ true = rw columns at inside in
+          let west : unsigned_abs column < width = abs_below width column columns in
+          let south : unsigned_abs row < height = abs_below height row rows in
+          row_and_column width height (unsigned_abs column) (unsigned_abs row) west south
+      | inr outside ↦ absurd (false≢true (rw outside at inside))
+    ]
+
+lines_in_blocks : (l : Lists) → IsLevel l → HasLines l
+lines_in_blocks l level = record {
+  each = λ column row. elim (cases_Bool (is_in_grid l.width l.height column row)) [
+    | inl inside ↦
+        let below : cell_number l.width column row < length l.cells = rw (size_of l level).cells (cell_below l.width l.height column row inside) in
+        rw inside (sound_cell l level (cell_number l.width column row) below).entries
+    | inr outside ↦ rw outside (All-nil (λ line. line < length l.lines))
+  ];
+}
+
 -- ---- what a reader gives, where the level's lists are `now`
 
 pub line_read : (l now : Lists) → l ≡ now → IsLevel l → (i : ℕ) → i < length now.lines → (line : Line) → line ≡ slice_index_or l.lines i line → IsLineIn now line
@@ -187,3 +219,6 @@ level_ends l now same level = let P : Lists → Type 0 = λ m. WalksEnd m.nodes 
 
 pub some_subsectors : (l : Lists) → IsLevel l → 0 < length l.subsectors
 some_subsectors l level = (groups l level.checked).some
+
+pub lines_read : (l now : Lists) → l ≡ now → IsLevel l → HasLines now
+lines_read l now same level = subst HasLines same (lines_in_blocks l level)

@@ -1,6 +1,6 @@
 -- What has to hold of a map's lists, in the order in which it is judged, each with its fault.
 use Rattle.std.specs.Prelude.{ℕ, ◌<◌, List, [], ◌∷◌, ◌++◌, length, Option, Some, None, IsSome, IfSome, All}
-use Rattle.first_fault.specs.FirstFault.{Condition, for_each}
+use Rattle.fixed_angle.specs.FirstFault.{Condition, for_each}
 use Rattle.map_geometry.specs.declared.fault.LevelFault.{LevelFault}
 use Rattle.map_geometry.specs.declared.fault.LevelFault.TheVariants.{LevelRef, NodeLoop, BlockShape}
 use Rattle.map_geometry.specs.Lists.{Lists, nth_line, nth_seg, nth_subsector, nth_node, nth_cell}

@@ -1,15 +1,16 @@
 -- What is known of every level.
-use Rattle.std.specs.Prelude.{ℕ, ◌<◌, length, None, IfSome, All}
-use Rattle.first_fault.specs.FirstFault.{FirstFault}
+use Rattle.std.specs.Prelude.{ℕ, ℤ, ◌<◌, length, None, IfSome, All}
+use Rattle.fixed_angle.specs.FirstFault.{FirstFault}
 use Rattle.map_geometry.specs.declared.records.Line.{Line}
 use Rattle.map_geometry.specs.declared.records.Subsector.{Subsector}
 use Rattle.map_geometry.specs.declared.records.Node.{Node}
 use Rattle.map_geometry.specs.declared.level.LevelParts.{LevelParts}
 use Rattle.map_geometry.specs.Lists.{Lists}
 use Rattle.map_geometry.specs.Derived.{IsLineOf, IsSubsectorOf, IsGridOf}
-use Rattle.map_geometry.specs.Blocks.{ReachesEnd, block_list}
+use Rattle.map_geometry.specs.Blocks.{ReachesEnd, block_list, block_lines}
 use Rattle.map_geometry.specs.Nodes.{IsChildIn}
 use Rattle.map_geometry.specs.Conditions.{conditions}
+use Rattle.map_geometry.specs.Sectors.{IsIndex}
 
 -- the lists that the vectors of a level's parts hold
 abbrev pub lists_of : LevelParts → Lists
@@ -38,6 +39,11 @@ pub record IsLevel (l : Lists) : Type 0 where
   pub lines : All (IsLineOf l.vertices l.sides) l.lines
   pub subsectors : All (IsSubsectorOf l.lines l.sides l.segs) l.subsectors
   pub grid : IsGridOf l.words l
+
+-- A level's parts: the lists, and for each sector what follows from them.
+pub record AreParts (parts : LevelParts) : Type 0 where
+  pub level : IsLevel (lists_of parts)
+  pub index : IsIndex (lists_of parts) parts.sector_lines.items parts.outlines.items
 
 -- ---- what a reader's caller may rely on
 
@@ -68,3 +74,7 @@ pub record IsCellIn (l : Lists) (offset : ℕ) : Type 0 where
   pub begins : offset < length l.words
   pub ends : ReachesEnd l.words offset
   pub entries : All (λ entry. entry < length l.lines) (block_list l.words offset)
+
+-- the lines in each block are there
+pub record HasLines (l : Lists) : Type 0 where
+  pub each : (column row : ℤ) → All (λ line. line < length l.lines) (block_lines l column row)

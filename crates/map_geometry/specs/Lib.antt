@@ -3,7 +3,8 @@ pub mod Derived
 pub mod Blocks
 pub mod Nodes
 pub mod Conditions
-pub mod Level
 pub mod Sides
-pub use Rattle.first_fault.specs.FirstFault
+pub mod Sectors
+pub mod Level
+pub use Rattle.fixed_angle.specs.FirstFault
 pub use Rattle.fixed_angle.specs.Fixed

@@ -13,7 +13,7 @@ pub enum LevelFault {
     NodesKind,
     /// A record names something that is not there: the number of the lump among the map's ten, from 1,
     /// and the record's number, from 0.
-    LevelRef(u8, usize),
+    LevelRef(u32, usize),
     /// A node that is reached from the last one stands below itself.
     NodeLoop,
     /// The block map has no head, no blocks, too few offsets, or a list without an end.

@@ -2,9 +2,10 @@
 ghost use Rattle.std.specs.Prelude.{◌≡◌, ◌*◌, ◌<◌, ◌^◌, length};
 ghost use Rattle.map_geometry.specs.Lists.{nth_thing, nth_line, nth_side, nth_vertex, nth_seg, nth_subsector, nth_node, nth_sector, nth_cell, nth_word};
 ghost use Rattle.map_geometry.specs.Nodes.{WalksEnd};
-ghost use Rattle.map_geometry.specs.Level.{IsLevel, lists_of, IsLineIn, IsSubsectorIn, IsNodeIn, IsCellIn};
+ghost use Rattle.map_geometry.specs.Level.{AreParts, lists_of, IsLineIn, IsSubsectorIn, IsNodeIn, IsCellIn};
 
 use crate::records::{Ground, Line, Node, Seg, Side, Spot, Subsector, Vertex};
+use crate::sectors::Outline;
 use std::marker::Model;
 
 /// What a level is made of.
@@ -30,30 +31,33 @@ pub struct LevelParts {
     pub height: u32,
     /// The map's label is of the form `ExMy`.
     pub episode_form: bool,
+    /// The numbers of the lines of each sector, one sector after the other, and where each one's stand.
+    pub sector_lines: Vec<u32>,
+    pub outlines: Vec<Outline>,
 }
 
 /// The lists of a level, of which each reference leads somewhere. A number that a reader gives need not be
 /// tested again.
 #[derive(Drop)]
 pub struct Level {
-    parts: LevelParts,
+    pub(crate) parts: LevelParts,
 }
 
 impl Model for Level {
     ghost use Rattle.map_geometry.specs.Lists.{Lists};
-    ghost use Rattle.map_geometry.specs.Level.{IsLevel, lists_of};
+    ghost use Rattle.map_geometry.specs.Level.{AreParts, lists_of};
 
     ghost Value = { Lists };
 
     ghost view = { λ level. lists_of level.parts };
 
-    ghost invariant = { λ level. IsLevel (lists_of level.parts) };
+    ghost invariant = { λ level. AreParts level.parts };
 }
 
 impl Level {
     /// The level of these parts, which were judged already.
     pub fn new(parts: LevelParts) -> Self
-        requires { IsLevel (lists_of parts) }
+        requires { AreParts parts }
         ensures { result ≡ lists_of parts }
     {
         Level { parts }

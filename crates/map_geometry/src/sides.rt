@@ -16,14 +16,14 @@ fn back_where(test: bool) -> u32
 }
 
 #[inline]
-fn difference(a: i32, b: i32) -> i32
+pub(crate) fn difference(a: i32, b: i32) -> i32
     ensures { result ≡ less a b }
 {
     a.wrapping_sub(b)
 }
 
 #[inline]
-fn sum(a: i32, b: i32) -> i32
+pub(crate) fn sum(a: i32, b: i32) -> i32
     ensures { result ≡ plus a b }
 {
     a.wrapping_add(b)

@@ -1,7 +1,7 @@
 -- The groups of conditions on a map's lists, one after the other.
 use Rattle.std.proofs.Common.{◌≡◌, ◌⊎◌, ℕ, ◌<◌, ◌++◌, length, get_or, Option, Some, None, All, inl, inr, refl}
-use Rattle.first_fault.specs.FirstFault.{FirstFault, for_each}
-use Rattle.first_fault.proofs.Order.{first_after, first_within, none_each}
+use Rattle.fixed_angle.specs.FirstFault.{FirstFault, for_each}
+use Rattle.fixed_angle.proofs.Order.{first_after, first_within, none_each}
 use Rattle.map_geometry.specs.declared.fault.LevelFault.{LevelFault}
 use Rattle.map_geometry.specs.declared.fault.LevelFault.TheVariants.{NodeLoop, BlockShape}
 use Rattle.map_geometry.specs.Lists.{Lists, nth_cell}

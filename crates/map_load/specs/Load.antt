@@ -1,7 +1,7 @@
 -- What has to hold of a map's lumps, in the order in which it is judged.
 use Rattle.std.specs.Prelude.{◌≡◌, ℕ, Bool, false, ◌||◌, IsTrue, List, ◌∷◌, take, drop, codes, nat_eq}
 use Rattle.std.specs.List.{starts_with}
-use Rattle.first_fault.specs.FirstFault.{Condition}
+use Rattle.fixed_angle.specs.FirstFault.{Condition}
 use Rattle.map_geometry.specs.declared.fault.LevelFault.{LevelFault}
 use Rattle.map_geometry.specs.declared.fault.LevelFault.TheVariants.{MapForm, NodesKind}
 use Rattle.map_geometry.specs.Conditions.{conditions}

@@ -49,8 +49,8 @@ unfoldable pub node_at : List ℕ → ℕ → Node
 node_at w at = record { x = length_at w at; y = length_at w (at + 2); dx = length_at w (at + 4); dy = length_at w (at + 6); child_0 = word_at w (at + 24); child_1 = word_at w (at + 26) }
 
 -- 26 bytes: floor, ceiling, two names, light, special, tag
-unfoldable pub sector_at : List ℕ → ℕ → Ground
-sector_at w at = record { floor = length_at w at; ceiling = length_at w (at + 2); light = short_at w (at + 20); special = word_at w (at + 22); tag = short_at w (at + 24) }
+unfoldable pub ground_at : List ℕ → ℕ → Ground
+ground_at w at = record { floor = length_at w at; ceiling = length_at w (at + 2); light = short_at w (at + 20); special = word_at w (at + 22); tag = short_at w (at + 24) }
 
 -- a line's back side, where it is not 0xFFFF
 abbrev pub back_side_of : ℕ → Option ℕ
@@ -139,7 +139,7 @@ spelled w spans episode_form = record {
   segs = segs_of w spans;
   subsectors = subsectors_of w spans;
   nodes = records (node_at w) 28 (lump spans 7);
-  sectors = records (sector_at w) 26 (lump spans 8);
+  sectors = records (ground_at w) 26 (lump spans 8);
   cells = cells_of (words_of w spans);
   words = words_of w spans;
   origin_x = signed_word (slice_index (words_of w spans) 0) *ℤ pos 65536;

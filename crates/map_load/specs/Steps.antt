@@ -1,7 +1,7 @@
 -- What one step of reading a level tells the next. No public contract cites these.
 use Rattle.std.specs.Prelude.{◌≡◌, ◌↔◌, ℕ, ◌<◌, Bool, true, false, IsTrue, List, length, slice_index_or, All}
 use Rattle.map_geometry.specs.declared.records.Node.{Node}
-use Rattle.first_fault.specs.FirstFault.{Condition, for_each}
+use Rattle.fixed_angle.specs.FirstFault.{Condition, for_each}
 use Rattle.map_geometry.specs.declared.fault.LevelFault.{LevelFault}
 use Rattle.map_geometry.specs.Lists.{Lists, no_node}
 use Rattle.map_geometry.specs.Derived.{IsLineOf, IsSubsectorOf, IsGridOf}

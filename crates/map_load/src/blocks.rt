@@ -2,7 +2,7 @@
 //! words.
 
 ghost use Rattle.std.specs.Prelude.{◌≡◌, ◌≢◌, ◌↔◌, ◌⊎◌, ℕ, ◌<◌, ◌≤◌, length, slice_index, All, IsTrue, IfOk, MatchOption};
-ghost use Rattle.first_fault.specs.FirstFault.{FirstFault};
+ghost use Rattle.fixed_angle.specs.FirstFault.{FirstFault};
 ghost use Rattle.map_geometry.specs.Blocks.{HasBlockShape, ReachesEnd, block_list, end_mark};
 ghost use Rattle.map_geometry.specs.Conditions.{block_checks, cell_conditions};
 ghost use Rattle.map_geometry.specs.Level.{lists_of};
@@ -12,7 +12,7 @@ use map_geometry::{LevelFault, LevelParts};
 use std::alloc::{AllocError, Global};
 
 /// The number of the lump of the block map among a map's ten.
-const BLOCKMAP: u8 = 10;
+const BLOCKMAP: u32 = 10;
 
 /// The word that ends a list.
 const END_MARK: u16 = 0xFFFF;

@@ -1,7 +1,7 @@
 //! The first fault of a map's lists.
 
 ghost use Rattle.std.specs.Prelude.{IfOk};
-ghost use Rattle.first_fault.specs.FirstFault.{FirstFault};
+ghost use Rattle.fixed_angle.specs.FirstFault.{FirstFault};
 ghost use Rattle.map_geometry.specs.Level.{lists_of};
 ghost use Rattle.map_geometry.specs.Conditions.{conditions};
 

@@ -1,7 +1,7 @@
 //! That a map's lumps say one thing.
 
 ghost use Rattle.std.specs.Prelude.{◌≡◌, ℕ, Bool, List, Option};
-ghost use Rattle.first_fault.specs.FirstFault.{FirstFault};
+ghost use Rattle.fixed_angle.specs.FirstFault.{FirstFault};
 ghost use Rattle.map_geometry.specs.declared.fault.LevelFault.{LevelFault};
 ghost use Rattle.map_load.specs.Load.{level_conditions};
 

@@ -1,7 +1,7 @@
 //! A level from a map's lumps.
 
 ghost use Rattle.std.specs.Prelude.{◌≡◌, ◌↔◌, ◌⊎◌, IsTrue, IfErr, IfOk, None, OnOk, Some};
-ghost use Rattle.first_fault.specs.FirstFault.{FirstFault};
+ghost use Rattle.fixed_angle.specs.FirstFault.{FirstFault};
 ghost use Rattle.map_geometry.specs.Conditions.{conditions};
 ghost use Rattle.map_geometry.specs.Level.{lists_of};
 ghost use Rattle.map_geometry.specs.declared.fault.LevelFault.TheVariants.{Memory};
@@ -12,6 +12,7 @@ ghost use Rattle.map_load.specs.Spelled.{spelled};
 ghost use Rattle.map_load.specs.Steps.{IsDerived};
 
 use crate::checks::level_fault;
+use crate::index::indexed;
 use crate::reading;
 use map_geometry::{Level, LevelFault, LevelParts};
 use std::alloc::Global;
@@ -36,7 +37,7 @@ fn judged(alloc: Global, parts: LevelParts) -> Result<Level, LevelFault>
 {
     match level_fault(alloc, &parts)? {
         Some(fault) => Err(fault),
-        None => Ok(Level::new(parts)),
+        None => Ok(Level::new(indexed(alloc, parts)?)),
     }
 }
 

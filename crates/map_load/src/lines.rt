@@ -1,7 +1,7 @@
 //! The first fault of the lines: vertices, sides or sectors that are not there.
 
 ghost use Rattle.std.specs.Prelude.{◌≡◌, ◌↔◌, ◌<◌, [], ◌∷◌, length, IsTrue};
-ghost use Rattle.first_fault.specs.FirstFault.{FirstFault};
+ghost use Rattle.fixed_angle.specs.FirstFault.{FirstFault};
 ghost use Rattle.map_geometry.specs.Derived.{sector_of_side};
 ghost use Rattle.map_geometry.specs.Level.{lists_of};
 ghost use Rattle.map_geometry.specs.Conditions.{line_checks, line_conditions};
@@ -9,9 +9,9 @@ ghost use Rattle.map_geometry.specs.Conditions.{line_checks, line_conditions};
 use map_geometry::{LevelFault, LevelParts};
 
 /// The numbers of the lumps of lines and sides among a map's ten.
-const LINES: u8 = 2;
+const LINES: u32 = 2;
 
-const SIDES: u8 = 3;
+const SIDES: u32 = 3;
 
 /// Whether a side is there.
 fn has_side(parts: &LevelParts, side: u16) -> bool

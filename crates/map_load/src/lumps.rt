@@ -4,7 +4,7 @@
 ghost use Rattle.std.specs.Prelude.{◌≡◌, IfOk};
 ghost use Rattle.wad_lumps.specs.Spelled.{word_at};
 ghost use Rattle.wad_lumps.specs.Directory.{LiesIn};
-ghost use Rattle.map_load.specs.Spelled.{line_at, node_at, records, sector_at, seg_at, side_at, subsector_at, thing_at, vertex_at};
+ghost use Rattle.map_load.specs.Spelled.{line_at, node_at, records, ground_at, seg_at, side_at, subsector_at, thing_at, vertex_at};
 
 use crate::records;
 use map_geometry::{Ground, Line, Node, Seg, Side, Spot, Subsector, Vertex};
@@ -102,7 +102,7 @@ pub fn nodes(alloc: Global, bytes: &[u8], span: (usize, usize)) -> Result<Vec<No
 #[tactic(auto, unfolding(crate::specs::Spelled::records))]
 pub fn sectors(alloc: Global, bytes: &[u8], span: (usize, usize)) -> Result<Vec<Ground>, AllocError>
     requires { LiesIn bytes.now span }
-    ensures { IfOk result (λ sectors. sectors.items ≡ records (sector_at bytes.now) 26 span) }
+    ensures { IfOk result (λ sectors. sectors.items ≡ records (ground_at bytes.now) 26 span) }
 {
     (0..span.1 / 26)
         .map(|i| records::sector(bytes, span.0 + i * 26))

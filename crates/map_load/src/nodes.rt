@@ -1,7 +1,7 @@
 //! The first fault of the nodes: children that are not there, or a node that stands below itself.
 
 ghost use Rattle.std.specs.Prelude.{◌≡◌, ◌↔◌, ◌<◌, length, IsTrue, IfOk};
-ghost use Rattle.first_fault.specs.FirstFault.{FirstFault};
+ghost use Rattle.fixed_angle.specs.FirstFault.{FirstFault};
 ghost use Rattle.map_geometry.specs.Nodes.{IsChildIn};
 ghost use Rattle.map_geometry.specs.Level.{lists_of};
 ghost use Rattle.map_geometry.specs.Conditions.{node_checks, node_conditions};
@@ -12,7 +12,7 @@ use map_geometry::{LevelFault, LevelParts};
 use std::alloc::{AllocError, Global};
 
 /// The number of the lump of nodes among a map's ten.
-const NODES: u8 = 7;
+const NODES: u32 = 7;
 
 /// From here on a child is a subsector.
 const SUBSECTOR: u16 = 0x8000;

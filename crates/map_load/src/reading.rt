@@ -37,7 +37,7 @@ fn origin(words: &[u16], i: usize) -> i32
     records::units(head_word(words, i).cast_signed())
 }
 
-/// All lists that a map's lumps spell.
+/// All lists that a map's lumps spell. What belongs to each sector is left empty.
 pub fn parts(
     alloc: Global,
     bytes: &[u8],
@@ -77,5 +77,7 @@ pub fn parts(
         width,
         height,
         episode_form,
+        sector_lines: Vec::new(alloc),
+        outlines: Vec::new(alloc),
     })
 }

@@ -5,7 +5,7 @@ ghost use Rattle.fixed_angle.specs.Fixed.{wrap32};
 ghost use Rattle.map_geometry.specs.Derived.{box_of, sector_of_seg, sector_of_side, slope_of};
 ghost use Rattle.map_geometry.specs.Lists.{no_line, no_seg};
 ghost use Rattle.wad_lumps.specs.Spelled.{word_at};
-ghost use Rattle.map_load.specs.Spelled.{back_side_of, between, facing, length_at, line_at, line_words_at, node_at, sector_at, seg_at, short_at, side_at, subsector_at, thing_at, vertex_at, vertex_of, way};
+ghost use Rattle.map_load.specs.Spelled.{back_side_of, between, facing, length_at, line_at, line_words_at, node_at, ground_at, seg_at, short_at, side_at, subsector_at, thing_at, vertex_at, vertex_of, way};
 
 use crate::subsectors::side_on;
 use byteorder::{ByteOrder, LittleEndian};
@@ -141,10 +141,10 @@ pub fn node(bytes: &[u8], at: usize) -> Node
     }
 }
 
-#[tactic(auto, unfolding(crate::specs::Spelled::sector_at))]
+#[tactic(auto, unfolding(crate::specs::Spelled::ground_at))]
 pub fn sector(bytes: &[u8], at: usize) -> Ground
     requires { at + 26 ≤ length bytes.now }
-    ensures { result ≡ sector_at bytes.now at }
+    ensures { result ≡ ground_at bytes.now at }
 {
     Ground {
         floor: length_in_units(bytes, at),

@@ -2,7 +2,7 @@
 //! there.
 
 ghost use Rattle.std.specs.Prelude.{◌≡◌, ◌<◌, length};
-ghost use Rattle.first_fault.specs.FirstFault.{FirstFault};
+ghost use Rattle.fixed_angle.specs.FirstFault.{FirstFault};
 ghost use Rattle.map_geometry.specs.Derived.{side_of};
 ghost use Rattle.map_geometry.specs.Level.{lists_of};
 ghost use Rattle.map_geometry.specs.Conditions.{subsector_checks, subsector_conditions};
@@ -10,9 +10,9 @@ ghost use Rattle.map_geometry.specs.Conditions.{subsector_checks, subsector_cond
 use map_geometry::{LevelFault, LevelParts, Line};
 
 /// The numbers of the lumps of segs and subsectors among a map's ten.
-const SEGS: u8 = 5;
+const SEGS: u32 = 5;
 
-const SUBSECTORS: u8 = 6;
+const SUBSECTORS: u32 = 6;
 
 /// The side of a line that a seg names.
 pub fn side_on(line: &Line, side: u16) -> Option<u16>

@@ -10,7 +10,8 @@ mod wads;
 
 pub use demos::{HEADER, demo, demo_of_zeros, header_at};
 pub use maps::{
-    MapPlan, PlanLine, PlanNode, PlanSector, PlanThing, picket_room, single_room, two_sectors,
+    MapPlan, PlanLine, PlanNode, PlanSector, PlanThing, picket_room, single_room, three_sectors,
+    two_sectors,
 };
 pub use tables::{PlanKind, play_tables, play_tables_of};
 pub use wads::wad;

@@ -173,6 +173,66 @@ fn two_sector_lines(
     lines.to_vec(alloc)
 }
 
+/// Three sectors in a row that meet at x = -128 and x = 256, the west and the east one with tag 7, and a sector without
+/// lines. Among their lines are two borders between the same sectors, one within a sector, one with two sides and no
+/// flag that says so, and one with that flag and no back side.
+pub fn three_sectors(alloc: Global) -> Result<MapPlan, AllocError> {
+    let mut plan = single_room(alloc)?;
+    plan.lines = three_sector_lines(alloc)?;
+    plan.segs = vec![in alloc; (1, 0), (4, 0), (5, 0)]?;
+    plan.nodes = vec![in alloc;
+        PlanNode {
+            at: (256, SOUTH),
+            direction: (0, 1024),
+            child_0: 0x8002,
+            child_1: 0x8001
+        },
+        PlanNode {
+            at: (-128, SOUTH),
+            direction: (0, 1024),
+            child_0: 0,
+            child_1: 0x8000
+        },
+    ]?;
+    plan.sectors = vec![in alloc;
+        sector((0, 128, 7)),
+        sector((24, 104, 0)),
+        sector((-8, 160, 7)),
+        sector((0, 0, 0)),
+    ]?;
+    Ok(plan)
+}
+
+/// A line with the flag of two sides.
+fn border(from: (i16, i16), to: (i16, i16), front: u16, back: Option<u16>) -> PlanLine {
+    PlanLine {
+        flags: TWO_SIDED,
+        back,
+        ..wall(from, to, front)
+    }
+}
+
+fn three_sector_lines(alloc: Global) -> Result<Vec<PlanLine>, AllocError> {
+    let lines = [
+        border((-128, NORTH), (-128, SOUTH), 0, Some(1)),
+        wall((WEST, SOUTH), (WEST, NORTH), 0),
+        border((256, SOUTH), (256, NORTH), 2, Some(1)),
+        wall((256, SOUTH), (-128, SOUTH), 1),
+        wall((-128, NORTH), (256, NORTH), 1),
+        wall((256, NORTH), (640, NORTH), 2),
+        wall((640, NORTH), (640, SOUTH), 2),
+        border((0, 0), (64, 64), 1, Some(1)),
+        PlanLine {
+            back: Some(2),
+            ..wall((0, 100), (0, 164), 1)
+        },
+        wall((-128, SOUTH), (WEST, SOUTH), 0),
+        border((-300, 0), (-300, 64), 0, None),
+        border((-128, 0), (-128, -64), 0, Some(1)),
+    ];
+    lines.to_vec(alloc)
+}
+
 /// The single room with a row of `count` further two-sided lines of this special east of the player, one unit apart
 /// and sixty to a row, each with sector 0 in front and behind.
 pub fn picket_room(alloc: Global, count: u16, special: u16) -> Result<MapPlan, AllocError> {

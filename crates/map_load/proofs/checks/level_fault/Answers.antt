@@ -1,5 +1,5 @@
 use Rattle.std.proofs.lemmas.Result.{IfOk-weaker}
-use Rattle.first_fault.specs.FirstFault.{FirstFault}
+use Rattle.fixed_angle.specs.FirstFault.{FirstFault}
 use Rattle.map_geometry.specs.Level.{lists_of}
 use Rattle.map_geometry.specs.Conditions.{block_checks, conditions}
 use Rattle.map_load.proofs.Groups.{in_lines, in_subsectors, in_nodes, in_blocks}

@@ -1,4 +1,4 @@
-use Rattle.first_fault.proofs.Order.{one_outcome}
+use Rattle.fixed_angle.proofs.Order.{one_outcome}
 use Rattle.map_load.specs.Load.{level_conditions}
 use Rattle.map_load.proofs.laws.one_fault.Goals as goal
 

@@ -1,5 +1,5 @@
 use Rattle.std.proofs.Common.{length, arith}
-use Rattle.first_fault.proofs.Order.{each_step, each_stop}
+use Rattle.fixed_angle.proofs.Order.{each_step, each_stop}
 use Rattle.map_geometry.specs.Level.{lists_of}
 use Rattle.map_geometry.specs.Conditions.{line_conditions}
 use Rattle.map_load.proofs.lines.lines_fault.Goals as goal

@@ -1,5 +1,5 @@
 use Rattle.std.proofs.Common.{None}
-use Rattle.first_fault.specs.FirstFault.{FirstFault, for_each}
+use Rattle.fixed_angle.specs.FirstFault.{FirstFault, for_each}
 use Rattle.map_geometry.specs.Level.{lists_of}
 use Rattle.map_geometry.specs.Conditions.{node_conditions}
 use Rattle.map_load.proofs.nodes.children_fault.Given as goal

@@ -1,0 +1,6 @@
+use Rattle.block_walk.specs.Steps.{itself}
+use Rattle.block_walk.proofs.Walks.{IsOnBlocks}
+use Rattle.block_walk.proofs.lines.add_blocks.Given as goal
+
+abbrev pub invariant-loop-block : goal.invariant-loop-block
+invariant-loop-block l = IsOnBlocks itself l.level l.walked l.initial.met l.met l.initial.out.items l.out.items l.fn.blocks l.block-iterator
