@@ -11,7 +11,7 @@ use Rattle.std.proofs.lemmas.List.Elements.{All-head, All-tail, All-map, All-fil
 use Rattle.std.proofs.lemmas.Nat.{same_from_place}
 use Rattle.map_geometry.specs.Blocks.{block_number, is_in_grid, cell_number}
 use Rattle.link_order.specs.declared.linked.Linked.{Linked}
-use Rattle.link_order.specs.Links.{stands_in, things_in}
+use Rattle.link_order.specs.Links.{stands_in, block_things}
 use Rattle.cow_world.specs.declared.records.Thing.{Thing}
 use Rattle.cow_world.specs.declared.grid.Grid.{Grid}
 use Rattle.cow_world.specs.Flat.{no_thing}
@@ -86,7 +86,7 @@ stands_is things grid column row block entry has is kept =
     rw (kept.block, has) same
 
 -- the present things of the block with a number
-pub present_in : (things : List Thing) (grid : Grid) (column row : ℤ) (block : ℕ) (order : List Linked) → cell_at grid column row ≡ Some block → All (IsEntry things grid) order → filter (is_present things) (things_in block order) ≡ filter (λ i. is_present things i && is_in_block grid column row (get_or things i no_thing)) (things_of order)
+pub present_in : (things : List Thing) (grid : Grid) (column row : ℤ) (block : ℕ) (order : List Linked) → cell_at grid column row ≡ Some block → All (IsEntry things grid) order → filter (is_present things) (block_things block order) ≡ filter (λ i. is_present things i && is_in_block grid column row (get_or things i no_thing)) (things_of order)
 present_in things grid column row block [] cell kept = refl
 present_in things grid column row block (entry ∷ rest) cell kept =
     let parts = cond_some (is_in_grid grid.width grid.height column row) (cell_number grid.width column row) block cell in

@@ -35,6 +35,7 @@ kept_again world other sectors specials things order blocks thinkers acted playe
   player = rw (player, things) kept.player;
   acted = rw (specials, acted) kept.acted;
   exited = rw exited kept.exited;
+  few_sectors = rw sectors kept.few_sectors;
   few_things = rw things kept.few_things;
   few_thinkers = rw thinkers kept.few_thinkers;
   entries = rw (halted, things, grid, order) kept.entries;

@@ -7,7 +7,8 @@ use Rattle.map_geometry.specs.declared.records.Ground.{Ground}
 use Rattle.cow_world.specs.declared.records.Sector.{Sector}
 use Rattle.cow_world.specs.Thinkers.{moved_by}
 use Rattle.cow_world.specs.Flat.{no_sector, sector_from, special_from, thinker_at, opening}
-use Rattle.cow_world.specs.Fits.{FitsLevel}
+use Rattle.fixed_angle.specs.Tables.{Tables}
+use Rattle.cow_world.specs.Fits.{FitsLevel, FitsBut}
 
 -- a level's sectors name no mover
 pub no_movers : (sectors : List Sector) (spots : List Ground) (count : ℕ) → sectors ≡ map sector_from spots → All (λ (sector : Sector). IfSome sector.mover (λ mover. mover < count)) sectors
@@ -16,8 +17,8 @@ no_movers sectors spots count same =
     All-same Named sectors (map sector_from spots) same (All-map Named sector_from spots (λ k d below. tt))
 
 -- and the world fits its level
-pub fits-opening : (level : Lists) → FitsLevel level (opening level)
-fits-opening level =
+pub fits_level-opening : (level : Lists) → FitsLevel level (opening level)
+fits_level-opening level =
     let Moved : Sector → Type 0 = λ sector. (i : ℕ) → IfSome sector.mover (λ mover. moved_by (thinker_at (opening level) mover) ≡ Some i) in
     let none : All Moved (map sector_from level.sectors) = All-map Moved sector_from level.sectors (λ k d below i. tt) in
     record {
@@ -28,3 +29,6 @@ fits-opening level =
       lifts = omega arith;
       grid = refl;
     }
+
+pub fits-opening : (level : Lists) (tables : Tables) (place : ℕ) → FitsBut level tables place (opening level)
+fits-opening level tables place = record { lists = fits_level-opening level; kinds = λ i below other. absurd (omega (arith, below)) }

@@ -7,6 +7,7 @@ use Rattle.map_geometry.specs.declared.records.Ground.{Ground}
 use Rattle.map_geometry.specs.declared.records.Line.{Line}
 use Rattle.map_geometry.specs.Lists.{Lists}
 use Rattle.game_trait.specs.declared.shown.Halt.{Halt}
+use Rattle.health_fx.specs.Body.{Body}
 use Rattle.cow_world.specs.declared.records.Sector.{Sector}
 use Rattle.cow_world.specs.declared.records.Thing.{Thing}
 use Rattle.cow_world.specs.declared.records.Player.{Player}
@@ -57,8 +58,11 @@ halt_of_flat (halted tic halt) = Some (tic, halt)
 abbrev pub halt_of : Gridded → Option (ℕ × Halt)
 halt_of world = halt_of_flat world.flat
 
+abbrev pub no_body : Body
+no_body = record { health = pos 0; armour = pos 0; kind = 0; suit = 0; guard = 0; react = 0; soft = false }
+
 abbrev pub no_player : Player
-no_player = record { thing = 0; momx = pos 0; momy = pos 0; momz = pos 0; angle = 0; keys = 0; held = false }
+no_player = record { thing = 0; momx = pos 0; momy = pos 0; momz = pos 0; angle = 0; keys = 0; held = false; body = no_body }
 
 -- what is left of a halted world
 abbrev pub no_parts : Live
@@ -82,7 +86,7 @@ abbrev pub no_sector : Sector
 no_sector = record { floor = pos 0; ceiling = pos 0; light = pos 0; special = 0; mover = None }
 
 abbrev pub no_thing : Thing
-no_thing = record { kind = 0; x = pos 0; y = pos 0; z = pos 0; floorz = pos 0; ceilingz = pos 0; present = false }
+no_thing = record { kind = 0; x = pos 0; y = pos 0; z = pos 0; floorz = pos 0; ceilingz = pos 0; angle = 0; present = false }
 
 abbrev pub sector_at : Gridded → ℕ → Sector
 sector_at world i = slice_index_or (parts world).sectors i no_sector
@@ -107,6 +111,10 @@ has_acted world line = list_any (λ other. other == line) (parts world).acted
 -- the pages of the world's stores together
 abbrev pub page_sum : Gridded → ℕ
 page_sum world = page_count (length (parts world).sectors) + page_count (length (parts world).specials) + page_count (length (parts world).things) + page_count (length (parts world).thinkers)
+
+-- the items of the world's stores together
+abbrev pub item_sum : Gridded → ℕ
+item_sum world = length (parts world).sectors + length (parts world).specials + length (parts world).things + length (parts world).thinkers
 
 -- ---- writers: each changes what it names and nothing else
 

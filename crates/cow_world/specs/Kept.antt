@@ -52,6 +52,7 @@ pub record IsKept (world : Inside) : Type 0 where
   pub player : world.player.thing ≤ length world.things - 1
   pub acted : All (λ line. line < length world.specials) world.acted.items
   pub exited : world.exited ≤ 2
+  pub few_sectors : length world.sectors < 2 ^ 32
   pub few_things : length world.things < 2 ^ 32
   pub few_thinkers : length world.thinkers < 2 ^ 32
   pub entries : world.halted ≡ None → All (IsEntry world.things world.grid) world.order.order

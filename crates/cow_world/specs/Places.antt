@@ -1,7 +1,8 @@
--- The things of a block.
+-- The things of a block, and of many.
 use Rattle.std.specs.Prelude.{ℕ, ℤ, Bool, ◌&&◌, List, filter, Option, slice_index_or}
 use Rattle.std.specs.List.{flat_map}
 use Rattle.std.specs.Ordering.{int_eq}
+use Rattle.map_geometry.specs.declared.blocks.Block.{Block}
 use Rattle.map_geometry.specs.Blocks.{block_number, is_in_grid, cell_of}
 use Rattle.cow_world.specs.declared.records.Thing.{Thing}
 use Rattle.cow_world.specs.declared.grid.Grid.{Grid}
@@ -20,9 +21,9 @@ is_present things i = (slice_index_or things i no_thing).present
 abbrev pub linked_in : Gridded → ℤ → ℤ → List ℕ
 linked_in world column row = filter (λ i. is_present (parts world).things i && is_in_block world.grid column row (thing_at world i)) (parts world).links
 
--- block by block, each a column and a row, the present linked things of that block in link order
-abbrev pub things_in : Gridded → List (ℤ × ℤ) → List ℕ
-things_in world blocks = flat_map (λ block. linked_in world block.0 block.1) blocks
+-- block by block, the present linked things of that block in link order
+abbrev pub things_in : Gridded → List Block → List ℕ
+things_in world blocks = flat_map (λ (block : Block). linked_in world block.column block.row) blocks
 
 -- ---- the blocks by number, row by row from the south
 

@@ -6,19 +6,30 @@
 //! `specs/Fits.antt` what a world has to be for the rules.
 #![tactic(auto)]
 
+mod around;
 mod fault;
+mod gaps;
 mod grid;
 mod kinds;
 mod links;
+mod nearby;
 mod numbers;
+mod random;
 mod records;
 mod sectors;
+mod shapes;
+mod thing_list;
 mod things;
 mod thinkers;
 mod world;
 
 pub use fault::PlayFault;
+pub use gaps::Gap;
 pub use grid::Grid;
 pub use kinds::{DoorKind, FloorKind, GlowKind, LightKind, Plane, PlatKind};
+pub use link_order::{FEW_THINGS, Things};
 pub use records::{DoorPhase, LiftPhase, Player, Sector, Thing, Thinker};
+pub use shapes::{
+    HANGS, MONSTER, NOT_LINKED, PLAYER_SHAPE, SHOOTABLE, SOLID, SPECIAL, Shape, has_bit,
+};
 pub use world::World;

@@ -2,6 +2,7 @@
 //! are in angle units: 2^32 are a whole turn. Counts are in tics.
 
 use crate::kinds::{DoorKind, FloorKind, GlowKind, PlatKind};
+use health_fx::Body;
 
 /// A sector as it stands now. `mover` is the place, among the thinkers, of the door, lift or floor that moves it.
 #[derive(Clone, Copy, Debug, PartialEq, Eq)]
@@ -14,7 +15,8 @@ pub struct Sector {
 }
 
 /// A thing: its kind's number (that of the player is 1), its place, the floor and the ceiling that it stands
-/// between, and whether it is still there. A thing that was taken keeps its place in the list.
+/// between, the angle with which it was spawned, and whether it is still there. A thing that was taken keeps its place
+/// in the list.
 #[derive(Clone, Copy, Debug, PartialEq, Eq)]
 pub struct Thing {
     pub kind: u16,
@@ -23,11 +25,13 @@ pub struct Thing {
     pub z: i32,
     pub floorz: i32,
     pub ceilingz: i32,
+    pub angle: u32,
     pub present: bool,
 }
 
-/// The player. `thing` is its place among the things, where its x, y, z, floorz and ceilingz are. Keys are blue 1,
-/// yellow 2, red 4. `held` says whether the use button was held in the tic before.
+/// The player. `thing` is its place among the things, where its x, y, z, floorz and ceilingz are. `angle` is the way
+/// it looks; the angle of its thing stays that of the spawning. Keys are blue 1, yellow 2, red 4. `held` says whether
+/// the use button was held in the tic before.
 #[derive(Clone, Copy, Debug, PartialEq, Eq)]
 pub struct Player {
     pub thing: u32,
@@ -37,6 +41,7 @@ pub struct Player {
     pub angle: u32,
     pub keys: u8,
     pub held: bool,
+    pub body: Body,
 }
 
 /// What changes a sector in every tic. A height that was never set is `None`. A door, lift or floor that has ended

@@ -8,6 +8,14 @@ use crate::world::World;
 use doom_edge::{Memory, Steps};
 
 impl World {
+    /// How many sectors there are.
+    pub fn sector_count(&self) -> u32
+        requires { IsLive self.now }
+        ensures { result ≡ length (parts self.now).sectors }
+    {
+        self.sectors.len() as u32
+    }
+
     /// The sector with a number. A mover that it names is there.
     pub fn sector(&self, i: u32) -> Sector
         requires live { IsLive self.now }

@@ -1,7 +1,9 @@
 //! Things and the player.
-ghost use Rattle.std.specs.Prelude.{◌≡◌, ◌+◌, ◌<◌, ◌≤◌, length, OnOk, OnErr};
+ghost use Rattle.std.specs.Prelude.{◌≡◌, ◌+◌, ◌<◌, ◌≤◌, pos, ◌<ℤ◌, length, OnOk, OnErr};
+ghost use Rattle.fixed_angle.specs.Tables.{Tables};
+ghost use Rattle.map_geometry.specs.Lists.{Lists};
 ghost use Rattle.cow_world.specs.Flat.{IsLive, parts, thing_at, push_thing, set_thing, set_player};
-ghost use Rattle.cow_world.specs.Fits.{KeepsFit, KeepsLevel, KeepsTablesWith};
+ghost use Rattle.cow_world.specs.Fits.{Fits, FitsBut, KeepsFit, KeepsFitWith, KeepsLevel, StaysAlive};
 
 use crate::records::{Player, Thing};
 use crate::world::World;
@@ -31,8 +33,7 @@ impl World {
         ensures ok { OnOk result (self.new ≡ push_thing self.old thing) }
         ensures err { OnErr result (self.new ≡ self.old) }
 
-        ensures fits_level { OnOk result (KeepsLevel self.old self.new) }
-        ensures fits_tables { OnOk result (KeepsTablesWith thing self.old self.new) }
+        ensures fits { OnOk result (KeepsFitWith thing self.old self.new) }
 
         ensures tics { steps.new.tics ≡ steps.old.tics }
         ensures least { steps.old.pages ≤ steps.new.pages }
@@ -77,7 +78,9 @@ impl World {
         requires live { IsLive self.old }
         requires thing { to.thing < length (parts self.old).things }
         ensures ok { self.new ≡ set_player self.old to }
-        ensures fits { to.thing ≡ (parts self.old).player.thing → KeepsFit self.old self.new }
+        ensures level { KeepsLevel self.old self.new }
+        ensures keeps { StaysAlive self.old to → KeepsFit self.old self.new }
+        ensures fits { pos 0 <ℤ to.body.health → (level : Lists) (tables : Tables) → FitsBut level tables to.thing self.old → Fits level tables self.new }
     {
         self.player = to;
     }

@@ -1,10 +1,11 @@
 //! Thinkers.
-ghost use Rattle.std.specs.Prelude.{◌≡◌, ◌+◌, ◌<◌, ◌≤◌, length, IfSome, IsTrue, OnOk, OnErr};
-ghost use Rattle.cow_world.specs.Thinkers.{sector_of, is_lift, lift_count};
+ghost use Rattle.std.specs.Prelude.{◌≡◌, ◌+◌, ◌<◌, ◌≤◌, length, IfSome, Some, IsTrue, OnOk, OnErr};
+ghost use Rattle.cow_world.specs.Thinkers.{sector_of, moved_by, is_lift, lift_count};
 ghost use Rattle.cow_world.specs.Flat.{IsLive, parts, thinker_at, push_thinker, set_thinker};
-ghost use Rattle.cow_world.specs.Fits.{KeepsFit, Serves};
+ghost use Rattle.cow_world.specs.Ends.{end_mover};
+ghost use Rattle.cow_world.specs.Fits.{KeepsFit, Serves, GoesOn};
 
-use crate::records::Thinker;
+use crate::records::{Sector, Thinker};
 use crate::world::World;
 use doom_edge::{Memory, Steps};
 
@@ -55,12 +56,36 @@ impl World {
         ensures err { OnErr result (self.new ≡ self.old) }
 
         ensures fits { OnOk result (Serves self.old i to → KeepsFit self.old self.new) }
+        ensures goes_on { OnOk result (GoesOn self.old i to → KeepsFit self.old self.new) }
 
         ensures tics { steps.new.tics ≡ steps.old.tics }
         ensures least { steps.old.pages ≤ steps.new.pages }
         ensures most { steps.new.pages ≤ steps.old.pages + 34 }
     {
         self.thinkers.set(i as usize, to, steps)?;
+        Ok(())
+    }
+    /// Ends the mover at a place: the sector that it moved names no mover any more, and `Ended` is left at the place.
+    /// After `Memory` nothing is said of the sector and the place.
+    pub fn end_mover(&mut self, mover: u32, sector: u32, steps: &mut Steps) -> Result<(), Memory>
+        requires live { IsLive self.old }
+        requires there { mover < length (parts self.old).thinkers }
+        requires sector { sector < length (parts self.old).sectors }
+        ensures ok { OnOk result (self.new ≡ end_mover self.old mover sector) }
+
+        ensures fits { OnOk result (moved_by (thinker_at self.old mover) ≡ Some sector → KeepsFit self.old self.new) }
+
+        ensures tics { steps.new.tics ≡ steps.old.tics }
+        ensures least { steps.old.pages ≤ steps.new.pages }
+        ensures most { steps.new.pages ≤ steps.old.pages + 68 }
+    {
+        let named = self.sector(sector);
+        let at_rest = Sector {
+            mover: None,
+            ..named
+        };
+        self.set_sector(sector, at_rest, steps)?;
+        self.set_thinker(mover, Thinker::Ended, steps)?;
         Ok(())
     }
 }

@@ -1,14 +1,16 @@
 //! The world as a whole.
-ghost use Rattle.std.specs.Prelude.{◌≡◌, ◌+◌, ◌*◌, ◌<◌, ◌≤◌, ◌↔◌, length, map, IfOk, IsNone};
+ghost use Rattle.std.specs.Prelude.{◌≡◌, ℕ, ◌+◌, ◌*◌, ◌^◌, ◌<◌, ◌≤◌, ◌↔◌, length, map, IfOk, IsNone};
 ghost use Rattle.fixed_angle.specs.Tables.{Tables};
 ghost use Rattle.map_geometry.specs.Lists.{nth_sector};
-ghost use Rattle.cow_world.specs.Fits.{FitsLevel, FitsTables};
-ghost use Rattle.cow_world.specs.Flat.{opening, sector_from, special_from, page_sum, halt_of, set_halted, IsLive};
+ghost use Rattle.cow_world.specs.Fits.{FitsLevel, FitsBut};
+ghost use Rattle.cow_world.specs.Flat.{opening, no_player, sector_from, special_from, page_sum, item_sum, halt_of, set_halted, IsLive};
 
 use crate::grid::{Grid, level_grid};
-use crate::records::{Player, Sector, Thing, Thinker};
-use doom_edge::{Memory, Steps};
+use crate::records::{Player, Sector, Thinker};
+use crate::thing_list::ThingList;
+use doom_edge::{Memory, Steps, moves_between_threads};
 use game_trait::Halt;
+use health_fx::Body;
 use link_order::LinkOrder;
 use map_geometry::Level;
 use page_store::Store;
@@ -31,7 +33,7 @@ use std::marker::Model;
 pub struct World {
     pub(crate) sectors: Store<Sector>,
     pub(crate) specials: Store<u16>,
-    pub(crate) things: Store<Thing>,
+    pub(crate) things: ThingList,
     pub(crate) order: LinkOrder,
     pub(crate) thinkers: Store<Thinker>,
     pub(crate) acted: Vec<u32>,
@@ -57,15 +59,28 @@ impl Model for World {
 }
 
 // It stands for no thing yet.
-const NO_PLAYER: Player = Player {
-    thing: 0,
-    momx: 0,
-    momy: 0,
-    momz: 0,
-    angle: 0,
-    keys: 0,
-    held: false,
-};
+fn no_player() -> Player
+    ensures { result ≡ no_player }
+{
+    Player {
+        thing: 0,
+        momx: 0,
+        momy: 0,
+        momz: 0,
+        angle: 0,
+        keys: 0,
+        held: false,
+        body: Body {
+            health: 0,
+            armour: 0,
+            kind: 0,
+            suit: 0,
+            guard: 0,
+            react: 0,
+            soft: false,
+        },
+    }
+}
 
 impl World {
     /// The live world of a level before anything was spawned: its sectors, which name no mover, and its line specials.
@@ -73,17 +88,17 @@ impl World {
     pub fn opening(alloc: Global, level: &Level) -> Result<World, Memory>
         ensures opening { IfOk result (λ world. world ≡ opening level.now) }
         ensures fits_level { IfOk result (FitsLevel level.now) }
-        ensures fits_tables { IfOk result (λ world. (tables : Tables) → FitsTables tables world) }
+        ensures fits { IfOk result (λ world. (tables : Tables) (place : ℕ) → FitsBut level.now tables place world) }
     {
         let grid = level_grid(level);
         Ok(World {
             sectors: Store::from_list(alloc, opening_sectors(alloc, level)?)?,
             specials: Store::from_list(alloc, opening_specials(alloc, level)?)?,
-            things: Store::from_list(alloc, Vec::new(alloc))?,
+            things: ThingList::new(alloc)?,
             order: LinkOrder::new(alloc, grid.width * grid.height)?,
             thinkers: Store::from_list(alloc, Vec::new(alloc))?,
             acted: Vec::new(alloc),
-            player: NO_PLAYER,
+            player: no_player(),
             rng: 0,
             time: 0,
             tics: 0,
@@ -121,6 +136,25 @@ impl World {
         })
     }
 
+    /// Gives the world pages of its own, so that no later write or fork of it touches a count of owners that another
+    /// world moves. Its things and their links begin anew as they stand, with the player's thing beside the others: what
+    /// is done to that writes no page from then on. On `Memory` the world means what it meant.
+    pub fn own_pages(&mut self, steps: &mut Steps) -> Result<(), Memory>
+        ensures kept { self.new ≡ self.old }
+
+        ensures tics { steps.new.tics ≡ steps.old.tics }
+        ensures least { steps.old.pages ≤ steps.new.pages }
+        ensures most { steps.new.pages ≤ steps.old.pages + item_sum self.old + 34 }
+    {
+        let alloc = *self.acted.allocator();
+        self.sectors.own_pages(steps)?;
+        self.specials.own_pages(steps)?;
+        self.things.own_pages(self.player.thing, steps)?;
+        self.thinkers.own_pages(steps)?;
+        self.order.settle(alloc)?;
+        Ok(())
+    }
+
     /// The tic that halted, counted from 1, and why; `None` exactly where the world is live.
     pub fn halted(&self) -> Option<(u64, Halt)>
         ensures halt { result ≡ halt_of self.now }
@@ -138,15 +172,19 @@ impl World {
         self.things.clear();
         self.thinkers.clear();
         self.acted.clear();
-        self.player = NO_PLAYER;
+        self.player = no_player();
         self.halted = Some((tic, halt));
     }
 }
 
 fn opening_sectors(alloc: Global, level: &Level) -> Result<Vec<Sector>, Memory>
-    ensures { IfOk result (λ sectors. sectors.items ≡ map sector_from level.now.sectors) }
+    ensures sectors { IfOk result (λ sectors. sectors.items ≡ map sector_from level.now.sectors) }
+    ensures few { IfOk result (λ sectors. length sectors.items < 2 ^ 32) }
 {
     let count = level.sector_count();
+    if count > u32::MAX as usize {
+        return Err(Memory);
+    }
     let mut sectors = Vec::with_capacity(alloc, count)?;
     for i in 0..count {
         sectors.push(opening_sector(level, i))?;
@@ -180,14 +218,8 @@ fn opening_specials(alloc: Global, level: &Level) -> Result<Vec<u16>, Memory>
 }
 
 // A world may move to another thread.
-fn moves_between_threads(world: World) -> World
+fn moves(world: World) -> World
     ensures { result ≡ world }
 {
-    sent(world)
-}
-
-fn sent<S: Send>(value: S) -> S
-    ensures { result ≡ value }
-{
-    value
+    moves_between_threads(world)
 }

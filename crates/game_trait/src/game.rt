@@ -72,6 +72,20 @@ pub trait Game {
         ensures tics { steps.new.tics ≡ steps.old.tics }
         ensures pages_never_fall { steps.old.pages ≤ steps.new.pages };
 
+    /// Gives a world pages of its own, so that no later write or fork of it touches what another world has. It means
+    /// the same after as before, also where memory is wanting, and no tic step is taken.
+    fn own_pages(
+        &self,
+        alloc: Global,
+        world: &mut Self::World,
+        steps: &mut Steps,
+    ) -> Result<(), Memory>
+        requires { fits self.now world.old }
+        ensures kept { world.new ≡ world.old }
+        ensures fitting { fits self.now world.new }
+        ensures tics { steps.new.tics ≡ steps.old.tics }
+        ensures pages_never_fall { steps.old.pages ≤ steps.new.pages };
+
     /// What the world shows.
     fn shown(&self, world: &Self::World) -> Shown
         requires { fits self.now world.now }

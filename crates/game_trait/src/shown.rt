@@ -19,6 +19,10 @@ pub enum Quantity {
     Keys,
     /// 0, or 1 after an exit, or 2 after a secret exit.
     Exited,
+    /// The player's health, above 0 while the world is live, and at most 200.
+    Health,
+    /// The points of the player's armour, 0 to 200.
+    Armour,
 }
 
 /// What a world shows of itself.
@@ -68,4 +72,8 @@ pub enum Halt {
     Mover,
     /// A door is opened by hand through this line, which has nothing behind it.
     NoBack(u32),
+    /// The player's health came to 0.
+    Died,
+    /// A teleport leads to where something stands.
+    Stomp,
 }

@@ -1,16 +1,16 @@
 -- Lists that are filtered, and the order in its two parts.
-use Rattle.std.proofs.Common.{◌≡◌, ◌≢◌, ℕ, ◌+◌, ◌<◌, ◌≤◌, Bool, true, false, ◌&&◌, List, [], ◌∷◌, ◌++◌, length}
+use Rattle.std.proofs.Common.{◌≡◌, ◌≢◌, ℕ, zero, suc, ◌+◌, ◌<◌, ◌≤◌, Bool, length-append, not, true, false, ◌&&◌, List, [], ◌∷◌, ◌++◌, length}
 use Rattle.std.proofs.Common.{get_or, set, take, map, All, refl, sym, ap, ◌∙◌, subst, ⊎_elim, arith}
 use Rattle.std.specs.List.{filter}
-use Rattle.std.proofs.lemmas.Bool.{cases_Bool, cond-true, cond-false, not-false, not-true, eqb-true, eqb-false}
+use Rattle.std.proofs.lemmas.Bool.{cases_Bool, ne_eqb, cond-true, cond-false, not-false, not-true, eqb-true, eqb-false}
 use Rattle.std.proofs.lemmas.Grind.{common_steps}
-use Rattle.std.proofs.lemmas.List.{map-append, append-nil, take_more_set}
+use Rattle.std.proofs.lemmas.List.{map-append, append-nil, take_more_set, get_or_append_left}
 use Rattle.std.proofs.lemmas.List.Elements.{filter-append, filter_agree, filter_more, filter_passes}
 use Rattle.std.proofs.lemmas.List.Elements.{All-weaker, All-append, All-nil, All-cons, All-filter, All-head, All-tail}
 use Rattle.std.proofs.lemmas.List.Kept.{AllPairs-cons, AllPairs-filter}
 use Rattle.link_order.specs.declared.linked.Linked.{Linked}
-use Rattle.link_order.specs.Links.{is_other, stands_in, things_in, EachOnce, IsWithin}
-use Rattle.link_order.specs.Parts.{in_front, is_fresh, order_of, IsOrder}
+use Rattle.link_order.specs.Links.{is_other, stands_in, block_things, EachOnce, IsWithin}
+use Rattle.link_order.specs.Parts.{in_front, begins_with, is_fresh, order_of, IsOrder}
 
 -- two filters, one after the other, in either order
 filter_comm : {X : Type 0} (p q : X → Bool) (xs : List X) → filter p (filter q xs) ≡ filter q (filter p xs)
@@ -98,8 +98,8 @@ IsOrder-none entries blocks once = record {
 }
 
 -- the things of a block in two lists
-pub things_in-append : (block : ℕ) (xs ys : List Linked) → things_in block (xs ++ ys) ≡ things_in block xs ++ things_in block ys
-things_in-append block xs ys =
+pub block_things-append : (block : ℕ) (xs ys : List Linked) → block_things block (xs ++ ys) ≡ block_things block xs ++ block_things block ys
+block_things-append block xs ys =
     ap (λ kept. map (λ (linked : Linked). linked.thing) kept) (filter-append (stands_in block) xs ys)
     ∙ map-append (λ (linked : Linked). linked.thing) (filter (stands_in block) xs) (filter (stands_in block) ys)
 
@@ -107,10 +107,10 @@ things_in-append block xs ys =
 not_there : (blocks block : ℕ) (linked : Linked) → blocks ≤ block → IsWithin blocks linked → stands_in block linked ≡ false
 not_there blocks block linked past within = grind (arith, common_steps)
 
-pub things_in-none : (blocks block : ℕ) (xs : List Linked) → blocks ≤ block → All (IsWithin blocks) xs → things_in block xs ≡ []
-things_in-none blocks block [] past within = refl
-things_in-none blocks block (x ∷ xs) past within =
-    let rest = things_in-none blocks block xs past (All-tail (IsWithin blocks) x xs within) in
+pub block_things-none : (blocks block : ℕ) (xs : List Linked) → blocks ≤ block → All (IsWithin blocks) xs → block_things block xs ≡ []
+block_things-none blocks block [] past within = refl
+block_things-none blocks block (x ∷ xs) past within =
+    let rest = block_things-none blocks block xs past (All-tail (IsWithin blocks) x xs within) in
     rw (not_there blocks block x past (All-head (IsWithin blocks) x xs within)) rest
 
 -- the things of a block that were not linked since: what is left of a base is looked through for them
@@ -119,7 +119,7 @@ fresh_in block recent entries = map (λ linked. linked.thing) (filter (is_fresh 
 
 -- whichever of the two tests is made first
 pub fresh_in-is : (block : ℕ) (recent entries : List Linked)
-    → fresh_in block recent entries ≡ things_in block (filter (is_fresh recent) entries)
+    → fresh_in block recent entries ≡ block_things block (filter (is_fresh recent) entries)
 fresh_in-is block recent entries =
     ap (λ kept. map (λ (linked : Linked). linked.thing) kept) (filter_comm (is_fresh recent) (stands_in block) entries)
 
@@ -144,3 +144,37 @@ put_left p first front entries i d there fails so_far =
     (sym (append-nil (filter p (take i entries)))
     ∙ ap (λ more. filter p (take i entries) ++ more) (sym (cond-false (p x) (x ∷ []) [] fails))
     ∙ sym (filter_more p entries i d there))
+
+-- in a front part of a list each thing stands once too
+pub once_in_front_part : (xs ys : List Linked) → EachOnce (xs ++ ys) → EachOnce xs
+once_in_front_part xs ys once = λ i j d before below.
+    let here : i < length xs = omega arith in
+    let apart = once i j d before (omega (arith, length-append xs ys, below)) in
+    rw (get_or_append_left xs ys d i here, get_or_append_left xs ys d j below) at apart
+
+-- those after an entry are of other things
+others_pass : (thing : ℕ) (xs : List Linked) → All (λ (linked : Linked). thing ≢ linked.thing) xs → filter (is_other thing) xs ≡ xs
+others_pass thing [] apart = refl
+others_pass thing (x ∷ xs) apart =
+    let P = λ (linked : Linked). thing ≢ linked.thing in
+    let other : x.thing ≢ thing = λ same. All-head P x xs apart (sym same) in
+    rw (ne_eqb x.thing thing other) (ap (λ rest. x ∷ rest) (others_pass thing xs (All-tail P x xs apart)))
+
+-- where the entry in front is of the thing already, it is replaced
+pub replaced_in_front : (first : Linked) (entries : List Linked) → begins_with first.thing entries ≡ true → EachOnce entries → set entries 0 first ≡ in_front first entries
+replaced_in_front first [] begins once = absurd cc
+replaced_in_front first (x ∷ xs) begins once =
+    let same : x.thing ≡ first.thing = eqb-true x.thing first.thing (not-false _ (ap not begins)) in
+    let apart : All (λ (linked : Linked). first.thing ≢ linked.thing) xs = λ k d below again. once 0 (suc k) d (omega arith) (omega (arith, below)) (same ∙ again) in
+    rw begins (ap (λ rest. first ∷ rest) (sym (others_pass first.thing xs apart)))
+
+-- the same for a front part of a list
+front_replaced : (first : Linked) (entries : List Linked) (len : ℕ) → begins_with first.thing (take len entries) ≡ true → EachOnce (take len entries) → take len (set entries 0 first) ≡ in_front first (take len entries)
+front_replaced first entries zero begins once = absurd cc
+front_replaced first [] (suc len) begins once = absurd cc
+front_replaced first (x ∷ xs) (suc len) begins once = replaced_in_front first (x ∷ take len xs) begins once
+
+pub part_replaced : (first : Linked) (entries : List Linked) (len : ℕ) (part : List Linked) → take len entries ≡ part → begins_with first.thing part ≡ true → EachOnce part → take len (set entries 0 first) ≡ in_front first part
+part_replaced first entries len part is =
+    let Replaced : List Linked → Type 0 = λ part. begins_with first.thing part ≡ true → EachOnce part → take len (set entries 0 first) ≡ in_front first part in
+    subst Replaced is (front_replaced first entries len)

@@ -27,8 +27,8 @@ abbrev pub stands_in : ℕ → Linked → Bool
 stands_in block linked = option_map_or (λ b. b == block) linked.block false
 
 -- the things of a block, in the order of linking
-abbrev pub things_in : ℕ → List Linked → List ℕ
-things_in block order = map (λ linked. linked.thing) (filter (stands_in block) order)
+abbrev pub block_things : ℕ → List Linked → List ℕ
+block_things block order = map (λ linked. linked.thing) (filter (stands_in block) order)
 
 -- the block, if there is one, is one of so many
 abbrev pub IsWithin : ℕ → Linked → Type 0

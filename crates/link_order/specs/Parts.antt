@@ -1,5 +1,5 @@
 -- The order in two parts: the latest links, and the base.
-use Rattle.std.specs.Prelude.{◌≡◌, ℕ, ◌+◌, ◌<◌, ◌≤◌, Bool, true, List, ◌∷◌, ◌++◌, length, filter, drop, All, slice_index_or}
+use Rattle.std.specs.Prelude.{◌≡◌, ℕ, ◌+◌, ◌<◌, ◌≤◌, Bool, true, false, ◌==◌, List, [], ◌∷◌, ◌++◌, length, filter, drop, All, slice_index_or}
 use Rattle.std.specs.List.{list_all}
 use Rattle.link_order.specs.declared.linked.Linked.{Linked}
 use Rattle.link_order.specs.Links.{is_other, stands_in, EachOnce, IsWithin}
@@ -7,6 +7,11 @@ use Rattle.link_order.specs.Links.{is_other, stands_in, EachOnce, IsWithin}
 -- an entry in front, and behind it the others without the thing
 abbrev pub in_front : Linked → List Linked → List Linked
 in_front first order = first ∷ filter (is_other first.thing) order
+
+-- is the first entry of this thing?
+abbrev pub begins_with : ℕ → List Linked → Bool
+begins_with thing [] = false
+begins_with thing (first ∷ rest) = first.thing == thing
 
 -- is it a thing of none of these?
 abbrev pub is_fresh : List Linked → Linked → Bool

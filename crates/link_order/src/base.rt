@@ -1,9 +1,10 @@
 // The order as it once stood, with the way through each block.
 ghost use Rattle.std.specs.Prelude.{◌≡◌, ◌++◌, length, filter, All, OnOk, IfOk};
-ghost use Rattle.link_order.specs.Links.{things_in, IsWithin};
+ghost use Rattle.link_order.specs.Links.{block_things, IsWithin};
 ghost use Rattle.link_order.specs.Parts.{is_fresh, IsJoined};
 
 use crate::linked::Linked;
+use crate::order::Things;
 use doom_edge::Memory;
 use std::alloc::Global;
 use std::marker::Model;
@@ -71,10 +72,10 @@ impl Base {
         &self,
         block: u32,
         recent: &[Linked],
-        out: &mut Vec<u32>,
+        out: &mut Things,
     ) -> Result<(), Memory>
         ensures { OnOk result (
-            out.new.items ≡ out.old.items ++ things_in block (filter (is_fresh recent.now) self.now.entries)) }
+            out.new.items ≡ out.old.items ++ block_things block (filter (is_fresh recent.now) self.now.entries)) }
     {
         let Some(head) = self.heads.get(block as usize) else {
             return Ok(());

@@ -7,7 +7,4 @@ mod order;
 mod recent;
 
 pub use linked::Linked;
-pub use order::LinkOrder;
-
-#[cfg(test)]
-mod tests;
+pub use order::{FEW_THINGS, LinkOrder, Things};

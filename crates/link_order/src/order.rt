@@ -1,14 +1,21 @@
 // The order of linking.
-ghost use Rattle.std.specs.Prelude.{◌≡◌, ◌++◌, ◌<◌, [], OnOk, IfOk, IfSome};
-ghost use Rattle.link_order.specs.Links.{linked_first, things_in, EachOnce};
+ghost use Rattle.std.specs.Prelude.{◌≡◌, ◌++◌, ◌<◌, [], All, OnOk, IfOk, IfSome};
+ghost use Rattle.link_order.specs.Links.{linked_first, block_things, EachOnce, IsWithin};
 
 use crate::base::Base;
 use crate::linked::Linked;
 use crate::recent::Recent;
-use doom_edge::Memory;
+use doom_edge::{Memory, moves_between_threads};
+use smallvec::SmallVec;
 use std::alloc::Global;
 use std::marker::Model;
 use std::sync::Arc;
+
+/// So many things are kept in a list without memory.
+pub const FEW_THINGS: usize = 16;
+
+/// Things, of which the first [`FEW_THINGS`] take no memory.
+pub type Things = SmallVec<u32, FEW_THINGS>;
 
 /// The things of a level in the order in which they were linked, the last linked first and each once. The
 /// number of the level's blocks is fixed when the order is made. How many links may still be made without
@@ -54,6 +61,22 @@ impl LinkOrder {
         })
     }
 
+    /// The order of these entries, the last linked first, in a level with so many blocks. It takes about the time of the
+    /// entries and the blocks, where that many links would take a part of the square of it.
+    pub fn of(alloc: Global, entries: Vec<Linked>, blocks: u32) -> Result<LinkOrder, Memory>
+        requires once { EachOnce entries.items }
+        requires within { All (IsWithin blocks) entries.items }
+        ensures order { IfOk result (λ made. made.order ≡ entries.items) }
+        ensures blocks { IfOk result (λ made. made.blocks ≡ blocks) }
+    {
+        let base = Base::new(alloc, entries, blocks as usize)?;
+        let base = Arc::new(alloc, base)?;
+        Ok(LinkOrder {
+            base,
+            recent: Recent::new(),
+        })
+    }
+
     /// Sees to it that one more link may be made. On `Memory` all is as before.
     pub fn make_room(&mut self, alloc: Global) -> Result<(), Memory>
         ensures order { self.new.order ≡ self.old.order }
@@ -63,6 +86,15 @@ impl LinkOrder {
         if self.recent.has_room() {
             return Ok(());
         }
+        self.settle(alloc)
+    }
+
+    /// Makes a base of the whole order, which no other order names, and with no link since. On `Memory` all is as before.
+    pub fn settle(&mut self, alloc: Global) -> Result<(), Memory>
+        ensures order { self.new.order ≡ self.old.order }
+        ensures blocks { self.new.blocks ≡ self.old.blocks }
+        ensures room { OnOk result (0 < self.new.room) }
+    {
         let base = self.settled(alloc)?;
         self.base = Arc::new(alloc, base)?;
         self.recent = Recent::new();
@@ -81,12 +113,11 @@ impl LinkOrder {
         self.recent.put_first(Linked { thing, block });
     }
 
-    /// Puts the things of a block, in the order of linking, in place of what was in `out`. After `Memory`
-    /// nothing is said of `out`.
-    pub fn in_block(&self, block: u32, out: &mut Vec<u32>) -> Result<(), Memory>
-        ensures { OnOk result (out.new.items ≡ things_in block self.now.order) }
+    /// Appends the things of a block, in the order of linking. It takes no memory as long as `out` holds no more than
+    /// [`FEW_THINGS`]. After `Memory` nothing is said of `out`.
+    pub fn in_block(&self, block: u32, out: &mut Things) -> Result<(), Memory>
+        ensures { OnOk result (out.new.items ≡ out.old.items ++ block_things block self.now.order) }
     {
-        out.clear();
         let recent = self.recent.as_slice();
         push_block(recent, block, out)?;
         self.base.push_block(block, recent, out)
@@ -116,8 +147,8 @@ impl LinkOrder {
 }
 
 // Appends the things of a block.
-fn push_block(entries: &[Linked], block: u32, out: &mut Vec<u32>) -> Result<(), Memory>
-    ensures { OnOk result (out.new.items ≡ out.old.items ++ things_in block entries.now) }
+fn push_block(entries: &[Linked], block: u32, out: &mut Things) -> Result<(), Memory>
+    ensures { OnOk result (out.new.items ≡ out.old.items ++ block_things block entries.now) }
 {
     for linked in entries {
         if linked.stands_in(block) {
@@ -128,14 +159,8 @@ fn push_block(entries: &[Linked], block: u32, out: &mut Vec<u32>) -> Result<(), 
 }
 
 // An order may move to another thread.
-fn moves_between_threads(order: LinkOrder) -> LinkOrder
+fn moves(order: LinkOrder) -> LinkOrder
     ensures { result ≡ order }
 {
-    sent(order)
-}
-
-fn sent<S: Send>(value: S) -> S
-    ensures { result ≡ value }
-{
-    value
+    moves_between_threads(order)
 }

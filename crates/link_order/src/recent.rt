@@ -1,6 +1,7 @@
 // The latest links.
-ghost use Rattle.std.specs.Prelude.{◌≡◌, ◌<◌, ◌≤◌, ◌↔◌, [], length, IsTrue};
-ghost use Rattle.link_order.specs.Parts.{in_front};
+ghost use Rattle.std.specs.Prelude.{◌≡◌, ◌<◌, ◌≤◌, ◌↔◌, [], length, IsTrue, slice_set};
+ghost use Rattle.link_order.specs.Links.{EachOnce};
+ghost use Rattle.link_order.specs.Parts.{in_front, begins_with};
 
 use crate::linked::Linked;
 use std::marker::Model;
@@ -55,11 +56,26 @@ impl Recent {
         self.as_slice().len() < RECENT_LEN
     }
 
-    // Puts an entry in front, and drops the one of the same thing.
+    // Whether the first entry is of this thing.
+    fn begins_with(&self, thing: u32) -> bool
+        ensures { result ≡ begins_with thing self.now }
+    {
+        match self.as_slice().first() {
+            Some(first) => first.thing == thing,
+            None => false,
+        }
+    }
+
+    // Puts an entry in front, and drops the one of the same thing. Where that stands in front already, no other moves.
     pub(crate) fn put_first(&mut self, first: Linked)
-        requires { length self.old < RECENT_LEN }
+        requires room { length self.old < RECENT_LEN }
+        requires once { EachOnce self.old }
         ensures { self.new ≡ in_front first self.old }
     {
+        if self.begins_with(first.thing) {
+            self.entries[0] = first;
+            return;
+        }
         let mut entries = [first; RECENT_LEN];
         let mut len = 1;
         for linked in self.as_slice() {

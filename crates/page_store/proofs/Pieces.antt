@@ -1,11 +1,11 @@
 -- Lists in pieces of 32: piece k begins at item 32 * k.
-use Rattle.std.proofs.Common.{◌≡◌, ℕ, ◌+◌, ◌-◌, ◌*◌, ◌/◌, ◌%◌, ◌<◌, ◌≤◌, ◌⊎◌, inl, inr, List, Some, [], ◌∷◌, ◌++◌, length, get_or, set, take, drop, min, slice_get, Result, Ok, Err, OnErr, refl, sym, ap, ◌∙◌, arith, length-append, append_assoc, zero, suc}
+use Rattle.std.proofs.Common.{◌≡◌, ◌≢◌, ℕ, ◌+◌, ◌-◌, ◌*◌, ◌/◌, ◌%◌, ◌<◌, ◌≤◌, ◌⊎◌, inl, inr, List, Some, [], ◌∷◌, ◌++◌, length, get_or, set, take, drop, min, slice_get, Result, Ok, Err, OnErr, refl, sym, ap, ◌∙◌, arith, length-append, length-set, append_assoc, zero, suc}
 use Rattle.std.proofs.Math.Seq.{take-add}
 use Rattle.std.proofs.lemmas.List.{append-nil, length-take, length-drop, take_all, take_min, drop_all, get_or-take, get_or_append_left, get_or-append_right, set-append_left, set-append_right, length-map, get_or-map, map-set, set-get_or, map-append, take_more}
-use Rattle.std.proofs.lemmas.Bool.{cases_lt}
+use Rattle.std.proofs.lemmas.Bool.{cases_lt, eq-eqb, ne_eqb}
 use Rattle.std.proofs.lemmas.Grind.{flat_map-append}
 use Rattle.std.proofs.lemmas.Option.{slice_get-get_or, get_or_from_slice_get}
-use Rattle.page_store.specs.Pages.{items_of, pieces_of, joined, ArePages, IsStore, page_count}
+use Rattle.page_store.specs.Pages.{items_of, pieces_of, joined, ArePages, IsStore, IsLaidOut, seen_in, page_count}
 use Rattle.page_store.specs.declared.page.Page.{Page}
 use Rattle.page_store.specs.declared.page.Page.TheVariants.{Based}
 
@@ -218,7 +218,7 @@ pub page_small : {T : Type 0} (base : List T) (pages : List (Page T)) (k : ℕ) 
 page_small base pages k page paged there is = omega (arith, page_fits (pieces_of base pages) k paged, ap length (page_is base pages k page there is))
 
 -- a new page after full ones
-pub pushed : {T : Type 0} (base : List T) (pages : List (Page T)) (len : ℕ) (page : Page T) (item : T) → IsStore (pieces_of base pages) len → len % 32 ≡ 0
+pub pushed : {T : Type 0} (base : List T) (pages : List (Page T)) (len : ℕ) (page : Page T) (item : T) → IsLaidOut (pieces_of base pages) len → len % 32 ≡ 0
     → items_of base page ≡ item ∷ []
     → ArePages (pieces_of base (pages ++ page ∷ [])) × (joined (pieces_of base (pages ++ page ∷ [])) ≡ joined (pieces_of base pages) ++ item ∷ [])
 pushed {T = T} base pages len page item store full one =
@@ -229,12 +229,12 @@ pushed {T = T} base pages len page item store full one =
     )
 
 -- the last page, where it has room
-pub last_is_there : {T : Type 0} (base : List T) (pages : List (Page T)) (len : ℕ) → IsStore (pieces_of base pages) len → (len % 32 ≡ 0 → ⊥) → length pages ≡ len / 32 + 1
+pub last_is_there : {T : Type 0} (base : List T) (pages : List (Page T)) (len : ℕ) → IsLaidOut (pieces_of base pages) len → (len % 32 ≡ 0 → ⊥) → length pages ≡ len / 32 + 1
 last_is_there base pages len store room =
     omega (arith, length-map pages (items_of base), (last_page (pieces_of base pages) (len / 32) (len % 32) store.paged (omega (arith, store.counted)) (omega (arith, room)) (omega arith)).0)
 
 -- and an item more in it
-pub grown : {T : Type 0} (base : List T) (pages : List (Page T)) (len : ℕ) (page after : Page T) (item : T) → IsStore (pieces_of base pages) len → (len % 32 ≡ 0 → ⊥)
+pub grown : {T : Type 0} (base : List T) (pages : List (Page T)) (len : ℕ) (page after : Page T) (item : T) → IsLaidOut (pieces_of base pages) len → (len % 32 ≡ 0 → ⊥)
     → page ≡ get_or pages (len / 32) page → items_of base after ≡ items_of base page ++ item ∷ []
     → ArePages (pieces_of base (set pages (len / 32) after)) × (joined (pieces_of base (set pages (len / 32) after)) ≡ joined (pieces_of base pages) ++ item ∷ [])
 grown base pages len page after item store room page_here is =
@@ -284,3 +284,67 @@ named_more base named pieces k pages page more so_far same there page_here is =
 pub on_err : {T E : Type 0} {P : Type 0} (r : Result T E) → P → OnErr r P
 on_err (Ok x) holds = tt
 on_err (Err e) holds = holds
+
+-- ---- a store with pages, and one that has none yet
+
+-- with pages that have all its items, a store has the items of the pages
+pub seen-laid_out : {T : Type 0} (base : List T) (pages : List (Page T)) (len : ℕ) → length (joined (pieces_of base pages)) ≡ len → seen_in base pages len ≡ joined (pieces_of base pages)
+seen-laid_out base [] len counted = rw (eq-eqb len 0 (sym counted)) refl
+seen-laid_out base (page ∷ pages) len counted = refl
+
+pub is-laid_out : {T : Type 0} (base : List T) (pages : List (Page T)) (len : ℕ) → ArePages (pieces_of base pages) → length (joined (pieces_of base pages)) ≡ len → IsStore base pages len
+is-laid_out base pages len paged counted = record { paged = paged; counted = ap length (seen-laid_out base pages len counted) ∙ counted }
+
+-- a store that has pages, or no items
+pub laid_out : {T : Type 0} (base : List T) (pages : List (Page T)) (len : ℕ) → IsStore base pages len → (length pages ≡ 0 → len ≡ 0) → joined (pieces_of base pages) ≡ seen_in base pages len
+laid_out base [] len store none = rw (eq-eqb len 0 (none refl)) refl
+laid_out base (page ∷ pages) len store none = refl
+
+-- a store without pages that has items has those of its base
+pub seen-base : {T : Type 0} (base : List T) (pages : List (Page T)) (len : ℕ) → length pages ≡ 0 → len ≢ 0 → seen_in base pages len ≡ base
+seen-base base [] len none more = rw (ne_eqb len 0 more) refl
+seen-base base (page ∷ pages) len none more = absurd (omega (arith, none))
+
+-- a store of a base alone
+pub is-base : {T : Type 0} (base : List T) (pages : List (Page T)) (len : ℕ) → length pages ≡ 0 → length base ≡ len → (seen_in base pages len ≡ base) × IsStore base pages len
+is-base [] [] len none counted = (rw (eq-eqb len 0 (sym counted)) refl, record { paged = tt; counted = rw (eq-eqb len 0 (sym counted)) counted })
+is-base (x ∷ base) [] len none counted =
+    let more : len ≢ 0 = omega (arith, counted) in
+    (rw (ne_eqb len 0 more) refl, record { paged = tt; counted = rw (ne_eqb len 0 more) counted })
+is-base base (page ∷ pages) len none counted = absurd (omega (arith, none))
+
+-- ---- a store whose pages were written
+
+module _ {T : Type 0} (base : List T) (before after : List (Page T)) (len : ℕ) (seen : List T) (laid : joined (pieces_of base before) ≡ seen) (counted : length seen ≡ len) (paged : ArePages (pieces_of base after)) where
+  pub wrote : (i : ℕ) (item : T) → joined (pieces_of base after) ≡ set (joined (pieces_of base before)) i item → IsStore base after len × (seen_in base after len ≡ set seen i item)
+  wrote i item is =
+      let whole : joined (pieces_of base after) ≡ set seen i item = is ∙ ap (λ xs. set xs i item) laid in
+      let long : length (joined (pieces_of base after)) ≡ len = ap length whole ∙ (length-set seen i item ∙ counted) in
+      (is-laid_out base after len paged long, seen-laid_out base after len long ∙ whole)
+
+  pub stayed : joined (pieces_of base after) ≡ joined (pieces_of base before) → IsStore base after len × (seen_in base after len ≡ seen)
+  stayed is =
+      let whole : joined (pieces_of base after) ≡ seen = is ∙ laid in
+      let long : length (joined (pieces_of base after)) ≡ len = ap length whole ∙ counted in
+      (is-laid_out base after len paged long, seen-laid_out base after len long ∙ whole)
+
+  pub appended : (item : T) → joined (pieces_of base after) ≡ joined (pieces_of base before) ++ item ∷ [] → IsStore base after (len + 1) × (seen_in base after (len + 1) ≡ seen ++ item ∷ [])
+  appended item is =
+      let whole : joined (pieces_of base after) ≡ seen ++ item ∷ [] = is ∙ ap (λ xs. xs ++ item ∷ []) laid in
+      let long : length (joined (pieces_of base after)) ≡ len + 1 = omega (arith, ap length whole, length-append seen (item ∷ []), counted) in
+      (is-laid_out base after (len + 1) paged long, seen-laid_out base after (len + 1) long ∙ whole)
+
+-- a store has no more pages than its items take
+pub few_pages : {T : Type 0} (base : List T) (pages : List (Page T)) (len : ℕ) → IsStore base pages len → length pages ≤ page_count (length (seen_in base pages len))
+few_pages base [] len store = omega arith
+few_pages base (page ∷ pages) len store = omega (arith, length-pages (pieces_of base (page ∷ pages)) store.paged, length-map (page ∷ pages) (items_of base))
+
+-- pages with the same items
+pub seen-same : {T : Type 0} (base : List T) (pages other : List (Page T)) (len : ℕ) → pieces_of base other ≡ pieces_of base pages → seen_in base other len ≡ seen_in base pages len
+seen-same base [] [] len same = refl
+seen-same base [] (other ∷ others) len same = absurd cc
+seen-same base (page ∷ pages) [] len same = absurd cc
+seen-same base (page ∷ pages) (other ∷ others) len same = ap joined same
+
+pub store-same : {T : Type 0} (base : List T) (pages other : List (Page T)) (len : ℕ) → pieces_of base other ≡ pieces_of base pages → IsStore base pages len → IsStore base other len
+store-same base pages other len same store = record { paged = rw same store.paged; counted = ap length (seen-same base pages other len same) ∙ store.counted }

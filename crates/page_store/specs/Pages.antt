@@ -1,5 +1,5 @@
 -- A list in pages.
-use Rattle.std.specs.Prelude.{◌≡◌, ℕ, ◌+◌, ◌/◌, ◌<◌, ◌≤◌, List, [], ◌∷◌, map, length, take, drop}
+use Rattle.std.specs.Prelude.{◌≡◌, ℕ, ◌+◌, ◌/◌, ◌<◌, ◌≤◌, ◌==◌, List, [], ◌∷◌, map, length, take, drop, if◌then◌else◌}
 use Rattle.std.specs.List.{flat_map}
 use Rattle.std.specs.Arc.{arc_value}
 use Rattle.page_store.specs.declared.page.Page.{Page}
@@ -25,8 +25,19 @@ ArePages [] = Unit {0}
 ArePages (piece ∷ []) = (0 < length piece) × (length piece ≤ 32)
 ArePages (piece ∷ next ∷ rest) = (length piece ≡ 32) × ArePages (next ∷ rest)
 
--- the pages of a store: they are in order, and so many items are in them
-pub record IsStore {T : Type 0} (pieces : List (List T)) (len : ℕ) : Type 0 where
+-- The items of a store: those of its pages. A store that was not written since it has its base has no pages yet, and the
+-- items of the base, unless it was emptied.
+abbrev pub seen_in : {T : Type 0} → List T → List (Page T) → ℕ → List T
+seen_in base [] len = if len == 0 then [] else base
+seen_in base (page ∷ pages) len = joined (pieces_of base (page ∷ pages))
+
+-- the pages of a store: they are in order, and so many items are in it
+pub record IsStore {T : Type 0} (base : List T) (pages : List (Page T)) (len : ℕ) : Type 0 where
+  pub paged : ArePages (pieces_of base pages)
+  pub counted : length (seen_in base pages len) ≡ len
+
+-- pages that have all items of a store
+pub record IsLaidOut {T : Type 0} (pieces : List (List T)) (len : ℕ) : Type 0 where
   pub paged : ArePages pieces
   pub counted : length (joined pieces) ≡ len
 

@@ -1,17 +1,19 @@
 // A list in pages.
 ghost use Rattle.std.specs.Prelude.{◌≡◌, ◌+◌, ◌*◌, ◌<◌, ◌≤◌, List, [], ◌∷◌, ◌++◌, Some, length, slice_get, slice_set, OnOk, OnErr, IfOk};
-ghost use Rattle.page_store.specs.Pages.{items_of, pieces_of, joined, ArePages, IsStore, page_count};
+ghost use Rattle.std.specs.Arc.{arc_value};
+ghost use Rattle.page_store.specs.Pages.{pieces_of, joined, seen_in, ArePages, IsStore, IsLaidOut, page_count};
 
 use crate::page::{PAGE_LEN, Page};
-use doom_edge::{Memory, Steps};
+use doom_edge::{Memory, Steps, moves_between_threads};
 use std::alloc::Global;
 use std::marker::Model;
 use std::sync::Arc;
 
-/// A list of items in pages of 32. A store begins as pages over one base, the items that it was made of. After a
-/// fork two stores share the base and all pages, and each copies a page before it first writes into it; so a fork
-/// touches no count of owners but the base's and those of the pages that were written since. A page step is one
-/// item copied, or one page named or made shared.
+/// A list of items in pages of 32. A store begins as one base, the items that it was made of, and is given pages over it
+/// at the first write. After a fork two stores share the base and all pages, and each copies a page before it first
+/// writes into it; so a fork touches no count of owners but the base's and those of the pages that were written since,
+/// and a fork of a store that was not written takes no memory. A page step is one item copied, or one page named or made
+/// shared.
 #[derive(Drop)]
 pub struct Store<T> {
     base: Arc<Vec<T>>,
@@ -25,11 +27,11 @@ impl<T> Model for Store<T> {
     ghost Value = { List T };
 
     ghost use Rattle.std.specs.Arc.{arc_value};
-    ghost use Rattle.page_store.specs.Pages.{pieces_of, joined, IsStore};
+    ghost use Rattle.page_store.specs.Pages.{seen_in, IsStore};
 
-    ghost view = { λ store. joined (pieces_of (arc_value store.base).items store.pages.items) };
+    ghost view = { λ store. seen_in (arc_value store.base).items store.pages.items store.len };
 
-    ghost invariant = { λ store. IsStore (pieces_of (arc_value store.base).items store.pages.items) store.len };
+    ghost invariant = { λ store. IsStore (arc_value store.base).items store.pages.items store.len };
 }
 
 impl<T: Copy + Send + Sync> Store<T> {
@@ -37,13 +39,12 @@ impl<T: Copy + Send + Sync> Store<T> {
     pub fn from_list(alloc: Global, items: Vec<T>) -> Result<Store<T>, Memory>
         ensures { IfOk result (λ store. store ≡ items.items) }
     {
-        let pages = pages_over(alloc, &items)?;
         let len = items.len();
-        let base = match Arc::new(alloc, items) {
-            Ok(base) => base,
-            Err(_) => return Err(Memory),
-        };
-        Ok(Store { base, pages, len })
+        Ok(Store {
+            base: shared(alloc, items)?,
+            pages: Vec::new(alloc),
+            len,
+        })
     }
 
     /// Lets all items go. It takes no memory.
@@ -66,7 +67,7 @@ impl<T: Copy + Send + Sync> Store<T> {
         requires { i < length self.now }
         ensures { slice_get self.now i ≡ Some result }
     {
-        item_at(&self.base, &self.pages, i)
+        item_in(&self.base, &self.pages, self.len, i)
     }
 
     /// Writes an item at a place. On `Memory` the list is as before.
@@ -79,7 +80,7 @@ impl<T: Copy + Send + Sync> Store<T> {
         ensures least { steps.old.pages ≤ steps.new.pages }
         ensures most { steps.new.pages ≤ steps.old.pages + 34 }
     {
-        set_item(&self.base, &mut self.pages, i, item, steps)
+        write(&self.base, &mut self.pages, self.len, i, item, steps)
     }
 
     /// Appends an item. On `Memory` the list is as before.
@@ -94,7 +95,7 @@ impl<T: Copy + Send + Sync> Store<T> {
         if self.len == usize::MAX {
             return Err(Memory);
         }
-        push_item(&self.base, &mut self.pages, self.len, item, steps)?;
+        append(&self.base, &mut self.pages, self.len, item, steps)?;
         self.len += 1;
         Ok(())
     }
@@ -116,6 +117,125 @@ impl<T: Copy + Send + Sync> Store<T> {
             len: self.len,
         })
     }
+
+    /// Gives the store a base of its own, which no other store names, and no pages. On `Memory` all is as before.
+    pub fn own_pages(&mut self, steps: &mut Steps) -> Result<(), Memory>
+        ensures kept { self.new ≡ self.old }
+
+        ensures tics { steps.new.tics ≡ steps.old.tics }
+        ensures least { steps.old.pages ≤ steps.new.pages }
+        ensures most { steps.new.pages ≤ steps.old.pages + length self.old }
+    {
+        let alloc = *self.pages.allocator();
+        let items = self.copied(alloc, steps)?;
+        self.base = shared(alloc, items)?;
+        self.pages.clear();
+        Ok(())
+    }
+
+    // All items, each copied by one step.
+    fn copied(&self, alloc: Global, steps: &mut Steps) -> Result<Vec<T>, Memory>
+        ensures items { IfOk result (λ items. items.items ≡ self.now) }
+        ensures tics { steps.new.tics ≡ steps.old.tics }
+        ensures least { steps.old.pages ≤ steps.new.pages }
+        ensures most { steps.new.pages ≤ steps.old.pages + length self.now }
+    {
+        let mut items = Vec::with_capacity(alloc, self.len())?;
+        for i in 0..self.len() {
+            steps.page();
+            items.push(self.get(i))?;
+        }
+        Ok(items)
+    }
+}
+
+// Items that forks share.
+fn shared<T: Copy>(alloc: Global, items: Vec<T>) -> Result<Arc<Vec<T>>, Memory>
+    ensures { IfOk result (λ base. arc_value base ≡ items) }
+{
+    match Arc::new(alloc, items) {
+        Ok(base) => Ok(base),
+        Err(_) => Err(Memory),
+    }
+}
+
+// The item at a place of a store.
+fn item_in<T: Copy>(base: &[T], pages: &[Page<T>], len: usize, i: usize) -> T
+    requires store { IsStore base.now pages.now len }
+    requires there { i < length (seen_in base.now pages.now len) }
+    ensures { slice_get (seen_in base.now pages.now len) i ≡ Some result }
+{
+    if pages.len() == 0 {
+        return base_item(base, i);
+    }
+    item_at(base, pages, i)
+}
+
+// Writes an item at a place of a store.
+fn write<T: Copy>(
+    base: &[T],
+    pages: &mut Vec<Page<T>>,
+    len: usize,
+    i: usize,
+    item: T,
+    steps: &mut Steps,
+) -> Result<(), Memory>
+    requires store { IsStore base.now pages.old.items len }
+    requires there { i < length (seen_in base.now pages.old.items len) }
+    ensures store { IsStore base.now pages.new.items len }
+    ensures ok { OnOk result (seen_in base.now pages.new.items len ≡ slice_set (seen_in base.now pages.old.items len) i item) }
+    ensures err { OnErr result (seen_in base.now pages.new.items len ≡ seen_in base.now pages.old.items len) }
+    ensures tics { steps.new.tics ≡ steps.old.tics }
+    ensures least { steps.old.pages ≤ steps.new.pages }
+    ensures most { steps.new.pages ≤ steps.old.pages + 34 }
+{
+    lay_out(base, pages, len)?;
+    set_item(base, pages, i, item, steps)?;
+    Ok(())
+}
+
+// Appends an item to a store.
+fn append<T: Copy>(
+    base: &[T],
+    pages: &mut Vec<Page<T>>,
+    len: usize,
+    item: T,
+    steps: &mut Steps,
+) -> Result<(), Memory>
+    requires store { IsStore base.now pages.old.items len }
+    ensures store { OnOk result (IsStore base.now pages.new.items (len + 1)) }
+    ensures ok { OnOk result (seen_in base.now pages.new.items (len + 1) ≡ seen_in base.now pages.old.items len ++ item ∷ []) }
+    ensures same { OnErr result (IsStore base.now pages.new.items len) }
+    ensures err { OnErr result (seen_in base.now pages.new.items len ≡ seen_in base.now pages.old.items len) }
+    ensures tics { steps.new.tics ≡ steps.old.tics }
+    ensures least { steps.old.pages ≤ steps.new.pages }
+    ensures most { steps.new.pages ≤ steps.old.pages + 34 }
+{
+    lay_out(base, pages, len)?;
+    push_item(base, pages, len, item, steps)?;
+    Ok(())
+}
+
+// The item at a place of the base.
+fn base_item<T: Copy>(base: &[T], i: usize) -> T
+    requires { i < length base.now }
+    ensures { slice_get base.now i ≡ Some result }
+{
+    base[i]
+}
+
+// Gives a store that has no pages yet its pages over the base. On `Memory` they are as before.
+fn lay_out<T: Copy>(base: &[T], pages: &mut Vec<Page<T>>, len: usize) -> Result<(), Memory>
+    requires { IsStore base.now pages.old.items len }
+    ensures paged { OnOk result (ArePages (pieces_of base.now pages.new.items)) }
+    ensures ok { OnOk result (joined (pieces_of base.now pages.new.items) ≡ seen_in base.now pages.old.items len) }
+    ensures err { OnErr result (pages.new.items ≡ pages.old.items) }
+{
+    if pages.len() > 0 || len == 0 {
+        return Ok(());
+    }
+    *pages = pages_over(*pages.allocator(), base)?;
+    Ok(())
 }
 
 // The pages over a base.
@@ -169,7 +289,7 @@ fn push_item<T: Copy>(
     item: T,
     steps: &mut Steps,
 ) -> Result<(), Memory>
-    requires { IsStore (pieces_of base.now pages.old.items) len }
+    requires { IsLaidOut (pieces_of base.now pages.old.items) len }
     ensures ok { OnOk result (ArePages (pieces_of base.now pages.new.items) × (joined (pieces_of base.now pages.new.items) ≡ joined (pieces_of base.now pages.old.items) ++ item ∷ [])) }
     ensures err { OnErr result (pieces_of base.now pages.new.items ≡ pieces_of base.now pages.old.items) }
     ensures tics { steps.new.tics ≡ steps.old.tics }
@@ -207,74 +327,8 @@ fn share_all<T: Copy>(
 }
 
 // A store may move to another thread.
-fn moves_between_threads<T: Copy + Send + Sync>(store: Store<T>) -> Store<T>
+fn moves<T: Copy + Send + Sync>(store: Store<T>) -> Store<T>
     ensures { result ≡ store }
 {
-    sent(store)
-}
-
-fn sent<S: Send>(value: S) -> S
-    ensures { result ≡ value }
-{
-    value
-}
-
-#[cfg(test)]
-mod tests {
-    use super::*;
-    use std::test::Fail;
-
-    // A store of the numbers below `len`.
-    fn counting(alloc: Global, len: u32) -> Result<Store<u32>, Fail> {
-        let mut items = Vec::new(alloc);
-        for item in 0..len {
-            items.push(item)?;
-        }
-        Ok(Store::from_list(alloc, items)?)
-    }
-
-    // Forking, and then writing to either store: each write copies one page at most, and leaves the other store.
-    #[test]
-    fn forks_and_writes(rt: HostRuntime) -> Result<(), Fail> {
-        let mut origin = counting(rt.alloc(), 100)?;
-        let mut steps = Steps::new();
-        let mut forked = origin.fork(&mut steps)?;
-        assert_eq!(rt; steps.pages(), 4);
-        assert_eq!(rt; forked.len(), 100);
-        assert_eq!(rt; forked.get(99), 99);
-
-        forked.set(40, 7, &mut steps)?;
-        assert_eq!(rt; steps.pages(), 4 + 33);
-        forked.set(41, 8, &mut steps)?;
-        assert_eq!(rt; steps.pages(), 4 + 34);
-        assert_eq!(rt; origin.get(40), 40);
-        assert_eq!(rt; origin.get(41), 41);
-
-        origin.set(40, 9, &mut steps)?;
-        origin.push(100, &mut steps)?;
-        assert_eq!(rt; forked.get(40), 7);
-        assert_eq!(rt; forked.len(), 100);
-        assert_eq!(rt; origin.get(40), 9);
-        assert_eq!(rt; origin.len(), 101);
-        assert_eq!(rt; steps.tics(), 0);
-        Ok(())
-    }
-
-    // Stores of each length about that of a page.
-    #[test]
-    fn grows_over_pages(rt: HostRuntime) -> Result<(), Fail> {
-        let mut steps = Steps::new();
-        for len in 0..70u32 {
-            let mut store = counting(rt.alloc(), len)?;
-            store.push(len, &mut steps)?;
-            let mut wrong = 0u32;
-            for (i, want) in (0..=len).enumerate() {
-                if i >= store.len() || store.get(i) != want {
-                    wrong = 1;
-                }
-            }
-            assert_eq!(rt; wrong, 0, "at {len}");
-        }
-        Ok(())
-    }
+    moves_between_threads(store)
 }

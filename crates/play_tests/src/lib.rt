@@ -2,8 +2,14 @@
 #![tactic(auto)]
 
 #[cfg(test)]
+mod bodies;
+#[cfg(test)]
 mod levels;
 #[cfg(test)]
 mod links;
+#[cfg(test)]
+mod orders;
+#[cfg(test)]
+mod stores;
 #[cfg(test)]
 mod worlds;

@@ -34,6 +34,7 @@ fn spawn(level: &Level, world: &mut World, steps: &mut Steps) -> Result<(), Memo
             z: 0,
             floorz: 0,
             ceilingz: 0,
+            angle: 0,
             present: number != GONE,
         };
         world.push_thing(thing, steps)?;

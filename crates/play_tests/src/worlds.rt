@@ -1,11 +1,13 @@
 //! The world: what readers give after each writer, forks and halts.
-ghost use Rattle.std.specs.Prelude.{◌≡◌};
+ghost use Rattle.std.specs.Prelude.{◌≡◌, [], OnOk};
+ghost use Rattle.cow_world.specs.Flat.{parts};
 ghost use Rattle.play_tests.specs.Open.{IsOpen};
 
 use crate::levels::{opened, sample};
 use cow_world::{DoorKind, DoorPhase, Player, Sector, Thing, Thinker, World};
 use doom_edge::{Memory, Steps};
 use game_trait::Halt;
+use health_fx::Body;
 use map_geometry::Level;
 use std::alloc::Global;
 use std::process::Abort;
@@ -28,6 +30,7 @@ const KEY: Thing = Thing {
     z: UNIT,
     floorz: 2,
     ceilingz: 3,
+    angle: 0x4000_0000,
     present: true,
 };
 
@@ -38,18 +41,24 @@ const TAKEN: Thing = Thing {
     z: 0,
     floorz: 2,
     ceilingz: 3,
+    angle: 0x4000_0000,
     present: false,
 };
 
-const PLAYER: Player = Player {
-    thing: 0,
-    momx: -4,
-    momy: 5,
-    momz: -6,
-    angle: 0xC000_0000,
-    keys: 3,
-    held: true,
-};
+fn sample_player(thing: u32) -> Player
+    ensures { result.thing ≡ thing }
+{
+    Player {
+        thing,
+        momx: -4,
+        momy: 5,
+        momz: -6,
+        angle: 0xC000_0000,
+        keys: 3,
+        held: true,
+        body: Body::new(true),
+    }
+}
 
 const DOOR: Thinker = Thinker::Door {
     sector: 1,
@@ -127,8 +136,8 @@ fn player(level: &Level, world: &mut World, steps: &mut Steps) -> Result<bool, M
     if world.thing_count() == 0 {
         return Ok(false);
     }
-    world.set_player(PLAYER);
-    Ok(world.player() == PLAYER)
+    world.set_player(sample_player(0));
+    Ok(world.player() == sample_player(0))
 }
 
 fn numbers(level: &Level, world: &mut World) -> bool
@@ -198,7 +207,7 @@ const EAST: Sector = Sector {
     mover: None,
 };
 
-/// Tries a writer on a fork of the world.
+/// Tries a writer on a fork of the world that has pages of its own.
 fn try_writer(
     rt: &impl Abort,
     level: &Level,
@@ -210,6 +219,7 @@ fn try_writer(
     ensures { world.new ≡ world.old }
 {
     let mut fork = world.fork(steps)?;
+    fork.own_pages(steps)?;
     let read = is_read(level, &mut fork, writer, steps)?;
     assert!(rt; read, "{writer:?}");
     Ok(())
@@ -241,7 +251,7 @@ fn halt_a_fork(rt: &impl Abort, world: &mut World, steps: &mut Steps) -> Result<
     Ok(())
 }
 
-// A halt leaves the origin, and takes no page steps more: a page of sectors and one of line specials were named.
+// A halt leaves the origin, and a fork of a world that was not written takes no page step.
 #[test]
 fn halts_and_forks(rt: HostRuntime) -> Result<(), Fail> {
     let level = sample(rt.alloc())?;
@@ -249,6 +259,124 @@ fn halts_and_forks(rt: HostRuntime) -> Result<(), Fail> {
     let mut steps = Steps::new();
     halt_a_fork(&rt, &mut world, &mut steps)?;
     assert_eq!(rt; world.halted(), None);
-    assert_eq!(rt; steps.pages(), 2);
+    assert_eq!(rt; steps.pages(), 0);
     Ok(())
+}
+
+/// Two things, of which the second is the player's, linked one after the other.
+fn spawn_two(level: &Level, world: &mut World, steps: &mut Steps) -> Result<(), Memory>
+    requires { IsOpen level.now world.old }
+    ensures { OnOk result (IsOpen level.now world.new) }
+{
+    world.push_thing(KEY, steps)?;
+    world.push_thing(KEY, steps)?;
+    if world.thing_count() > 1 {
+        world.set_player(sample_player(1));
+        world.link(level, 0, KEY.x, KEY.y, steps)?;
+        world.link(level, 1, KEY.x, KEY.y, steps)?;
+    }
+    Ok(())
+}
+
+/// Puts a thing at another height, if it is there.
+fn lift(
+    level: &Level,
+    world: &mut World,
+    thing: u32,
+    z: i32,
+    steps: &mut Steps,
+) -> Result<(), Memory>
+    requires { IsOpen level.now world.old }
+    ensures { OnOk result (IsOpen level.now world.new) }
+{
+    if thing < world.thing_count() {
+        let there = world.thing(thing);
+        world.set_thing(thing, Thing { z, ..there }, steps)?;
+    }
+    Ok(())
+}
+
+/// The height of a thing, if it is there.
+fn height(level: &Level, world: &World, thing: u32) -> Option<i32>
+    requires { IsOpen level.now world.now }
+{
+    if thing < world.thing_count() {
+        Some(world.thing(thing).z)
+    } else {
+        None
+    }
+}
+
+/// The heights of both things, and that the player's thing stands first in their block.
+fn shows(
+    rt: &impl Abort,
+    alloc: Global,
+    level: &Level,
+    world: &World,
+    heights: (i32, i32),
+) -> Result<(), Fail>
+    requires { IsOpen level.now world.now }
+{
+    let mut linked = Vec::new(alloc);
+    let column = level.column_of(KEY.x);
+    world.linked_in(level, column, level.row_of(KEY.y), &mut linked)?;
+    assert_eq!(rt; linked.as_slice(), [1, 0].as_slice());
+    assert_eq!(rt; height(level, world, 0), Some(heights.0));
+    assert_eq!(rt; height(level, world, 1), Some(heights.1));
+    Ok(())
+}
+
+/// Lifts both things of a fork with pages of its own. What is done to the player's thing takes no page step; the other
+/// thing's page, of two things, is copied.
+fn lift_a_fork(
+    rt: &impl Abort,
+    alloc: Global,
+    level: &Level,
+    origin: &mut World,
+    steps: &mut Steps,
+) -> Result<(), Fail>
+    requires { IsOpen level.now origin.old }
+    ensures { origin.new ≡ origin.old }
+{
+    let mut fork = origin.fork(steps)?;
+    fork.own_pages(steps)?;
+    let before = steps.pages();
+    lift(level, &mut fork, 0, 9, steps)?;
+    lift(level, &mut fork, 1, 7, steps)?;
+    assert_eq!(rt; steps.pages().wrapping_sub(before), 3);
+    shows(rt, alloc, level, &fork, (9, 7))
+}
+
+// A world with pages of its own and its origin are the same until one is written, and then apart.
+#[test]
+fn pages_of_its_own(rt: HostRuntime) -> Result<(), Fail> {
+    let level = sample(rt.alloc())?;
+    let mut origin = opened(rt.alloc(), &level)?;
+    let mut steps = Steps::new();
+    spawn_two(&level, &mut origin, &mut steps)?;
+    lift_a_fork(&rt, rt.alloc(), &level, &mut origin, &mut steps)?;
+    shows(&rt, rt.alloc(), &level, &origin, (UNIT, UNIT))
+}
+
+/// Pushes two things, and links both at once.
+fn spawn_at_once(level: &Level, world: &mut World, steps: &mut Steps) -> Result<(), Memory>
+    requires open { IsOpen level.now world.old }
+    requires first { (parts world.old).links ≡ [] }
+    ensures { OnOk result (IsOpen level.now world.new) }
+{
+    world.push_thing(KEY, steps)?;
+    world.push_thing(KEY, steps)?;
+    if world.thing_count() > 1 {
+        world.link_all(level, &[0, 1])?;
+    }
+    Ok(())
+}
+
+#[test]
+fn linked_at_once(rt: HostRuntime) -> Result<(), Fail> {
+    let level = sample(rt.alloc())?;
+    let mut world = opened(rt.alloc(), &level)?;
+    let mut steps = Steps::new();
+    spawn_at_once(&level, &mut world, &mut steps)?;
+    shows(&rt, rt.alloc(), &level, &world, (UNIT, UNIT))
 }

@@ -132,6 +132,15 @@ impl Game for SampleGame {
         Ok(*world)
     }
 
+    fn own_pages(
+        &self,
+        _alloc: Global,
+        _world: &mut SampleWorld,
+        _steps: &mut Steps,
+    ) -> Result<(), Memory> {
+        Ok(())
+    }
+
     fn shown(&self, world: &SampleWorld) -> Shown {
         if world.halted {
             return Shown::Halted {

@@ -1,4 +1,4 @@
-use Rattle.std.proofs.Common.{◌∙◌, refl}
+use Rattle.std.proofs.Common.{◌∙◌, refl, arith}
 use Rattle.cow_world.proofs.Forks.{forked_pages, kept_again}
 use Rattle.cow_world.proofs.world.World.fork.Goals as goal
 
@@ -25,3 +25,15 @@ invariant_of-result c =
     kept_again c.self.inside _ c.in_ok-fork.ensures.same c.in_ok-fork-2.ensures.same c.in_ok-fork-3.ensures.same
     c.in_ok-fork-4.ensures.order c.in_ok-fork-4.ensures.blocks c.in_ok-fork-5.ensures.same (c.in_ok-from_slice.ensures.items ∙ c.deref.ensures.value)
     refl refl refl refl c.self.invariant
+
+pub returns-in_err-fork-2-clause-most : goal.returns-in_err-fork-2-clause-most
+returns-in_err-fork-2-clause-most c = forked_pages c.self.inside c.args.self.now _ _ c.fork-2.new.steps.pages c.fork-2.new.steps.pages c.fork-2.new.steps.pages c.self.view_is c.self.invariant c.fork.ensures.most c.fork-2.ensures.most (omega arith) (omega arith)
+
+pub returns-in_err-fork-3-clause-most : goal.returns-in_err-fork-3-clause-most
+returns-in_err-fork-3-clause-most c = forked_pages c.self.inside c.args.self.now _ _ _ c.fork-3.new.steps.pages c.fork-3.new.steps.pages c.self.view_is c.self.invariant c.fork.ensures.most c.fork-2.ensures.most c.fork-3.ensures.most (omega arith)
+
+pub returns-in_err-fork-4-clause-most : goal.returns-in_err-fork-4-clause-most
+returns-in_err-fork-4-clause-most c = forked_pages c.self.inside c.args.self.now _ _ _ c.fork-3.new.steps.pages c.fork-3.new.steps.pages c.self.view_is c.self.invariant c.fork.ensures.most c.fork-2.ensures.most c.fork-3.ensures.most (omega arith)
+
+pub invariant_of-self-in_err-fork-4 : goal.invariant_of-self-in_err-fork-4
+invariant_of-self-in_err-fork-4 c = rw (c.fork.ensures.kept, c.fork-2.ensures.kept, c.fork-3.ensures.kept) c.self.invariant

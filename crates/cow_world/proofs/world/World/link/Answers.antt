@@ -19,10 +19,15 @@ invariant_of-self c = kept-room c.self.inside c.make_room.new.self c.make_room.e
 pub invariant_of-self-in_err-set : goal.invariant_of-self-in_err-set
 invariant_of-self-in_err-set c = rw c.in_err-set.ensures.err (kept-room c.self.inside c.make_room.new.self c.make_room.ensures.order c.make_room.ensures.blocks c.self.invariant)
 
-pub set-requires-after_bounds : goal.set-requires-after_bounds
-set-requires-after_bounds c =
+pub get-requires : goal.get-requires
+get-requires c =
     let same = ap (λ (l : Live). length l.things) (parts_are _ _ _ _ c.self.view_is c.requires.live) in
-    λ _. rw same c.requires.there
+    rw same c.requires.there
+
+pub set-requires : goal.set-requires
+set-requires c =
+    let same = ap (λ (l : Live). length l.things) (parts_are _ _ _ _ c.self.view_is c.requires.live) in
+    rw same c.requires.there
 
 pub link-requires-clause-within : goal.link-requires-clause-within
 link-requires-clause-within c =

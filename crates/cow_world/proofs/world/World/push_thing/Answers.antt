@@ -1,5 +1,5 @@
 use Rattle.std.proofs.Common.{◌≡◌, [], ◌∷◌, ◌++◌, None, Some, sym, subst, rules, arith, length-append}
-use Rattle.cow_world.specs.Fits.{KeepsTablesWith}
+use Rattle.cow_world.specs.Fits.{KeepsFitWith}
 use Rattle.cow_world.proofs.Fitting.{keeps-push_thing}
 use Rattle.cow_world.proofs.Writes.{is_live}
 use Rattle.cow_world.proofs.Entries.{entries-push}
@@ -15,6 +15,7 @@ invariant_of-self-2 c =
       player = omega (arith, c.self.invariant.player, length-append c.self.inside.things (c.args.thing ∷ []));
       acted = c.self.invariant.acted;
       exited = c.self.invariant.exited;
+      few_sectors = c.self.invariant.few_sectors;
       few_things = omega (arith, length-append c.self.inside.things (c.args.thing ∷ []));
       few_thinkers = c.self.invariant.few_thinkers;
       entries = λ _. entries-push _ _ _ _ (c.self.invariant.entries live);
@@ -28,5 +29,5 @@ invariant_of-self-2 c =
 pub returns-clause-ok : goal.returns-clause-ok
 returns-clause-ok c = search rules
 
-pub returns-clause-fits_tables : goal.returns-clause-fits_tables
-returns-clause-fits_tables c = subst (KeepsTablesWith c.args.thing c.args.self.now) (sym (returns-clause-ok c)) (keeps-push_thing c.args.self.now c.args.thing)
+pub returns-clause-fits : goal.returns-clause-fits
+returns-clause-fits c = subst (KeepsFitWith c.args.thing c.args.self.now) (sym (returns-clause-ok c)) (keeps-push_thing c.args.self.now c.args.thing)

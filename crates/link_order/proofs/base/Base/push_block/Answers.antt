@@ -3,7 +3,7 @@ use Rattle.std.proofs.lemmas.List.{drop_all, append-nil}
 use Rattle.std.proofs.lemmas.List.Elements.{All-filter}
 use Rattle.link_order.specs.Links.{IsWithin}
 use Rattle.link_order.specs.Parts.{is_fresh}
-use Rattle.link_order.proofs.Orders.{fresh_in-is, things_in-none}
+use Rattle.link_order.proofs.Orders.{fresh_in-is, block_things-none}
 use Rattle.link_order.proofs.base.Base.push_block.Goals as goal
 
 -- a block that the level doesn't have
@@ -13,7 +13,7 @@ returns-in_default c =
     omega (arith, c.in_default.ensures.lookup, ap length c.deref.ensures.value) in
     let blocks = length c.self.inside.heads.items in
     let within = All-filter (is_fresh c.args.recent.now) (IsWithin blocks) _ c.self.invariant.within in
-    rw (← c.self.view_is) (rw (things_in-none _ c.args.block _ past within) (sym (append-nil c.args.out.now.items)))
+    rw (← c.self.view_is) (rw (block_things-none _ c.args.block _ past within) (sym (append-nil c.args.out.now.items)))
 
 -- the way through the block has come to its end
 pub returns : goal.returns

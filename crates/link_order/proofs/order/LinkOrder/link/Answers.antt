@@ -1,7 +1,10 @@
 use Rattle.std.proofs.Common.{◌<◌, subst, sym, IfSome}
 use Rattle.link_order.specs.Links.{Links}
-use Rattle.link_order.proofs.Orders.{order_of-in_front, IsOrder-in_front}
+use Rattle.link_order.proofs.Orders.{order_of-in_front, IsOrder-in_front, once_in_front_part}
 use Rattle.link_order.proofs.order.LinkOrder.link.Goals as goal
+
+pub put_first-requires-clause-once : goal.put_first-requires-clause-once
+put_first-requires-clause-once c = once_in_front_part c.self.inside.recent _ c.self.invariant.once
 
 pub invariant_of-self : goal.invariant_of-self
 invariant_of-self c =

@@ -1,6 +1,6 @@
 use Rattle.std.proofs.Common.{length, length-set, arith, ap, sym, ◌∙◌}
 use Rattle.link_order.specs.Links.{is_other}
-use Rattle.link_order.proofs.Orders.{put_kept, put_left}
+use Rattle.link_order.proofs.Orders.{put_kept, put_left, part_replaced}
 use Rattle.link_order.proofs.recent.Recent.put_first.Goals as goal
 use Rattle.link_order.proofs.recent.Recent.put_first.Goals.{then-is_other, else-is_other}
 
@@ -27,3 +27,7 @@ loop-linked-preserved c =
             c.loop-linked-test.true (sym c.is_other.ensures ∙ w.if-is_other.false) c.loop-linked.invariant.put);
       }
     ]
+
+pub returns-then-begins_with : goal.returns-then-begins_with
+returns-then-begins_with c =
+    part_replaced c.args.first c.self.inside.entries c.self.inside.len c.args.self.now c.self.view_is (sym c.begins_with.ensures ∙ c.if-begins_with.true) c.requires.once
