@@ -1,3 +1,3 @@
 pub mod Builds
-pub mod Places
+pub mod Gaps
 pub mod Sessions

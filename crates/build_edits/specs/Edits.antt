@@ -25,12 +25,13 @@ put_outcome tic parts =
     then Err TooLong
     else Ok (record { before = parts.before ++ tic ∷ []; after = drop 1 parts.after })
 
+-- the tic stands before the one at the cursor, and before the cursor
+abbrev pub inserted : Tic → Parts → Parts
+inserted tic parts = record { before = parts.before ++ tic ∷ []; after = parts.after }
+
 -- `insert`: the tic comes before the one at the cursor, if a demo may be longer
 abbrev pub insert_outcome : Tic → Parts → Outcome
-insert_outcome tic parts =
-    if nat_le most_tics (length (all_tics parts))
-    then Err TooLong
-    else Ok (record { before = parts.before ++ tic ∷ []; after = parts.after })
+insert_outcome tic parts = if nat_le most_tics (length (all_tics parts)) then Err TooLong else Ok (inserted tic parts)
 
 -- `delete`: the tic at the cursor goes, if there is one
 abbrev pub delete_outcome : Parts → Outcome

@@ -1,4 +1,4 @@
-ghost use Rattle.std.specs.Prelude.{◌≡◌, ◌+◌, ◌-◌, ◌<◌, ◌≤◌, max, [], length, IfOk, OnOk};
+ghost use Rattle.std.specs.Prelude.{◌≡◌, ◌+◌, ◌-◌, ◌<◌, ◌≤◌, ◌↔◌, max, [], length, IsTrue, IfOk, OnOk};
 ghost use Rattle.doom_edge.specs.Counts.{raised};
 ghost use Rattle.lmp_codec.specs.Demo.{most_tics};
 ghost use Rattle.game_trait.specs.Replay.{IsReplay};
@@ -44,17 +44,32 @@ impl<G: Game> Model for Build<G> {
 impl<G: Game> Build<G> {
     /// The game that it was opened with.
     pub fn game(&self) -> &G
-        ensures { result.now ≡ self.now.game }
+        ensures game { result.now ≡ self.now.game }
     {
         &self.game
     }
 
-    /// All the tics, in order.
-    pub fn tics(&self) -> &[Tic]
-        ensures all { result.now ≡ all_tics self.now.tape }
+    /// The tics before the cursor, in order.
+    pub fn before(&self) -> &[Tic]
+        ensures before { result.now ≡ self.now.tape.before }
         ensures within { length result.now ≤ most_tics }
     {
-        self.tape.tics()
+        self.tape.before()
+    }
+
+    /// How many tics there are.
+    pub fn len(&self) -> usize
+        ensures len { result ≡ length (all_tics self.now.tape) }
+        ensures within { result ≤ most_tics }
+    {
+        self.tape.len()
+    }
+
+    /// Whether there is no tic.
+    pub fn is_empty(&self) -> bool
+        ensures { IsTrue result ↔ (length (all_tics self.now.tape) ≡ 0) }
+    {
+        self.tape.is_empty()
     }
 
     /// How many tics stand before the cursor.
@@ -82,13 +97,13 @@ impl<G: Game> Build<G> {
         ensures pages_never_fall { steps.old.pages ≤ steps.new.pages }
     {
         let place = self.tape.cursor();
-        let tics = self.tape.tics();
+        let tics = self.tape.before();
         self.frames.world_at(alloc, &self.game, place, tics, steps)
     }
 
     /// Moves the cursor to this place. Refused with `Place` and the number of tics where that is less.
     pub fn seek(&mut self, place: u32) -> Result<(), EditFault>
-        ensures { Edits result self.old self.new (after_seek self.old (seek_outcome place self.old.tape)) }
+        ensures edits { Edits result self.old self.new (after_seek self.old (seek_outcome place self.old.tape)) }
     {
         self.tape.seek(place)?;
         Ok(())
@@ -97,7 +112,7 @@ impl<G: Game> Build<G> {
     /// Writes the tic over the one at the cursor, or appends it at the end, and moves the cursor behind it.
     /// Refused with `TooLong` where it would be one tic too many.
     pub fn put(&mut self, tic: Tic) -> Result<(), EditFault>
-        ensures { MayEdit result self.old self.new (after_edit self.old (put_outcome tic self.old.tape)) }
+        ensures edits { MayEdit result self.old self.new (after_edit self.old (put_outcome tic self.old.tape)) }
     {
         let place = self.tape.cursor();
         self.tape.put(tic)?;
@@ -108,7 +123,7 @@ impl<G: Game> Build<G> {
     /// Inserts the tic at the cursor, and moves the cursor behind it. Refused with `TooLong` where it would
     /// be one tic too many.
     pub fn insert(&mut self, tic: Tic) -> Result<(), EditFault>
-        ensures { MayEdit result self.old self.new (after_edit self.old (insert_outcome tic self.old.tape)) }
+        ensures edits { MayEdit result self.old self.new (after_edit self.old (insert_outcome tic self.old.tape)) }
     {
         let place = self.tape.cursor();
         self.tape.insert(tic)?;
@@ -119,7 +134,7 @@ impl<G: Game> Build<G> {
     /// Removes the tic at the cursor. Refused with `Place` and the number of tics where the cursor is at the
     /// end.
     pub fn delete(&mut self) -> Result<(), EditFault>
-        ensures { Edits result self.old self.new (after_edit self.old (delete_outcome self.old.tape)) }
+        ensures edits { Edits result self.old self.new (after_edit self.old (delete_outcome self.old.tape)) }
     {
         let place = self.tape.cursor();
         self.tape.delete()?;
@@ -129,7 +144,7 @@ impl<G: Game> Build<G> {
 
     /// Removes all tics from the cursor on. It is never refused.
     pub fn cut(&mut self) -> Result<(), EditFault>
-        ensures { Edits result self.old self.new (after_edit self.old (cut_outcome self.old.tape)) }
+        ensures edits { Edits result self.old self.new (after_edit self.old (cut_outcome self.old.tape)) }
     {
         let place = self.tape.cursor();
         self.tape.cut()?;
@@ -140,7 +155,7 @@ impl<G: Game> Build<G> {
     /// Puts the tic before the cursor so many times more. Refused with `Before` where there is none, and with
     /// `TooLong` where that would be too many tics.
     pub fn repeat(&mut self, count: u32) -> Result<(), EditFault>
-        ensures { let outcome = repeat_outcome count self.old.tape in
+        ensures edits { let outcome = repeat_outcome count self.old.tape in
             MayEdit result self.old self.new (after_edit self.old outcome) }
     {
         let place = self.tape.cursor();
@@ -152,7 +167,7 @@ impl<G: Game> Build<G> {
     /// Puts these tics in place of all tics from the cursor on, and moves the cursor to the end. Refused with
     /// `TooLong` where that would be too many tics.
     pub fn accept(&mut self, tics: &[Tic]) -> Result<(), EditFault>
-        ensures { let outcome = accept_outcome tics.now self.old.tape in
+        ensures edits { let outcome = accept_outcome tics.now self.old.tape in
             MayEdit result self.old self.new (after_edit self.old outcome) }
     {
         let place = self.tape.cursor();
@@ -166,7 +181,7 @@ impl<G: Game + Drop> Build<G> {
     /// A build of these tics in this game, with the cursor at its start.
     pub fn begin(alloc: Global, game: G, tics: Vec<Tic>) -> Result<Build<G>, Memory>
         requires { length tics.items ≤ most_tics }
-        ensures { IfOk result (λ build. build ≡
+        ensures begun { IfOk result (λ build. build ≡
             record { game = game; tape = record { before = []; after = tics.items }; reach = 0 }) }
     {
         let frames = Frames::new(alloc, &game)?;
@@ -176,7 +191,17 @@ impl<G: Game + Drop> Build<G> {
             frames,
         })
     }
-}
 
-#[cfg(test)]
-mod tests;
+    /// All the tics, in order, as the vector that holds them.
+    pub fn into_tics(self) -> Result<Vec<Tic>, Memory>
+        ensures all { IfOk result (λ tics. tics.items ≡ all_tics self.tape) }
+        ensures within { IfOk result (λ tics. length tics.items ≤ most_tics) }
+    {
+        let Build {
+            game: _,
+            tape,
+            frames: _,
+        } = self;
+        tape.into_tics()
+    }
+}

@@ -1,5 +1,6 @@
 ghost use Rattle.std.specs.Prelude.{◌≡◌};
 
+use doom_edge::Memory;
 use std::alloc::{AllocError, AllocFailed};
 
 /// Why an edit was refused. What stood before still stands.
@@ -31,6 +32,16 @@ impl<T: Drop> From<AllocFailed<T>> for EditFault {
     ghost from_gives = { λ _ fault. fault ≡ Memory };
 
     fn from(_error: AllocFailed<T>) -> Self {
+        EditFault::Memory
+    }
+}
+
+impl From<Memory> for EditFault {
+    ghost use Rattle.build_edits.specs.declared.fault.EditFault.TheVariants.{Memory as NoMemory};
+
+    ghost from_gives = { λ _ fault. fault ≡ NoMemory };
+
+    fn from(_error: Memory) -> Self {
         EditFault::Memory
     }
 }

@@ -12,6 +12,3 @@ pub use build::Build;
 pub use fault::EditFault;
 pub use laws::lists_of_edits;
 pub use reel::Tape;
-
-#[cfg(test)]
-mod tests;

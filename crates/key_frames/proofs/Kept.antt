@@ -1,6 +1,6 @@
 -- Frames after one more, after a cut, and a replay that goes on from one.
 use Rattle.std.proofs.Common.{ℕ, zero, suc, ◌+◌, ◌-◌, ◌*◌, ◌/◌, ◌<◌, ◌≤◌, ◌≡◌, ◌++◌, ◌⊎◌, inl, inr, List, [], ◌∷◌, length, take, drop, get_or, arith, ap, refl, sym, ◌∙◌, Some, slice_get, Result, Ok, Err, IfOk}
-use Rattle.std.proofs.lemmas.List.{take_more, take-take, take-append-drop, drop-take, length-take, length_push}
+use Rattle.std.proofs.lemmas.List.{take-append-le, take_more, take-take, take-append-drop, drop-take, length-take, length_push}
 use Rattle.std.proofs.lemmas.List.Sums.{fold-append}
 use Rattle.std.specs.List.{fold}
 use Rattle.doom_edge.specs.Counts.{raised, raised_from, raised-at_most}
@@ -90,6 +90,21 @@ pub replay_found : {G W E : Type 0}
 replay_found rules game tics from to frame (Ok world) le first is fits =
     record { same = replay_on rules game tics from to frame world le first.same is; fitting = fits }
 replay_found rules game tics from to frame (Err e) le first is fits = tt
+
+-- the replay of some tics, shown by a list of them that goes on or doesn't
+pub replay_further : {G W : Type 0}
+    (rules : Ghosts G W) (game : G) (tics rest : List Tic) (n : ℕ) (world : W)
+    → n ≤ length tics
+    → IsReplay rules game (take n tics) world
+    → IsReplay rules game (take n (tics ++ rest)) world
+replay_further rules game tics rest n world inside is = rw (take-append-le n tics rest inside) is
+
+pub replay_nearer : {G W : Type 0}
+    (rules : Ghosts G W) (game : G) (tics rest : List Tic) (n : ℕ) (world : W)
+    → n ≤ length tics
+    → IsReplay rules game (take n (tics ++ rest)) world
+    → IsReplay rules game (take n tics) world
+replay_nearer rules game tics rest n world inside is = rw (← take-append-le n tics rest inside) is
 
 -- one more frame
 pub frames_push : {G W : Type 0}

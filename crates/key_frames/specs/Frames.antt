@@ -1,6 +1,6 @@
 -- Worlds that are kept along the replay of a list of tics, one every so many tics, so that a later replay can
 -- go on from one of them.
-use Rattle.std.specs.Prelude.{◌≡◌, ℕ, ◌+◌, ◌-◌, ◌*◌, ◌/◌, ◌<◌, ◌≤◌, min, List, length, take, slice_get, Some}
+use Rattle.std.specs.Prelude.{◌≡◌, ℕ, ◌+◌, ◌-◌, ◌*◌, ◌/◌, ◌<◌, ◌≤◌, ◌++◌, min, List, length, take, slice_get, Some}
 use Rattle.lmp_codec.specs.declared.input.Tic.{Tic}
 use Rattle.game_trait.specs.declared.game.Game.{Ghosts}
 use Rattle.game_trait.specs.Replay.{IsReplay}
@@ -34,3 +34,11 @@ pub record AreFrames {G W : Type 0}
   pub each : (k : ℕ) (frame : W)
       → slice_get frames k ≡ Some frame
       → IsReplay rules game (take (frame_tics * k) tics) frame
+
+-- these are frames along some tics that begin with these
+abbrev pub AreFramesOn : {G W : Type 0} → Ghosts G W → G → List Tic → List W → Type 0
+AreFramesOn rules game front frames = (rest : List Tic) × AreFrames rules game (front ++ rest) frames
+
+-- what was along all such tics still is
+abbrev pub StayFramesOn : {G W : Type 0} → Ghosts G W → G → List Tic → List W → List W → Type 0
+StayFramesOn rules game front old new = (rest : List Tic) → AreFrames rules game (front ++ rest) old → AreFrames rules game (front ++ rest) new

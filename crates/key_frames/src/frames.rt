@@ -2,7 +2,7 @@ ghost use Rattle.std.specs.Prelude.{◌≡◌, ◌+◌, ◌-◌, ◌/◌, ◌<�
 ghost use Rattle.doom_edge.specs.Counts.{raised};
 ghost use Rattle.lmp_codec.specs.declared.input.Tic.{Tic};
 ghost use Rattle.game_trait.specs.Replay.{IsReplay};
-ghost use Rattle.key_frames.specs.Frames.{frame_tics, frame_tic, reach, frame_below, not_past, AreFrames};
+ghost use Rattle.key_frames.specs.Frames.{frame_tics, frame_tic, reach, frame_below, not_past, AreFrames, AreFramesOn, StayFramesOn};
 
 use crate::play::{FRAME_TICS, extend, world_from};
 use doom_edge::{Memory, Steps};
@@ -50,7 +50,8 @@ impl<G: Game> Frames<G> {
         (FRAME_TICS * (self.frames.len() - 1)) as u32
     }
 
-    /// The world after the first `t` tics. It is played on from the last frame that is not past `t`, by one
+    /// The world after the first `t` tics, where the frames belong to tics that begin with these: more than these
+    /// need not be shown. It is played on from the last frame that is not past `t`, by one
     /// tic step for each tic between, and the frames on the way are kept. So where the first `t` tics were
     /// played before, less than [`FRAME_TICS`] steps are taken. Without memory the frames that were made
     /// stay.
@@ -62,7 +63,7 @@ impl<G: Game> Frames<G> {
         tics: &[Tic],
         steps: &mut Steps,
     ) -> Result<G::World, Memory>
-        requires belong { AreFrames G.Game game.now tics.now self.old }
+        requires belong { AreFramesOn G.Game game.now tics.now self.old }
         requires inside { t ≤ length tics.now }
         ensures world { IfOk result (IsReplay G.Game game.now (take t tics.now)) }
         ensures tics { OnOk result (steps.new.tics ≡ raised steps.old.tics (t - frame_below (reach self.old) t)) }
@@ -70,7 +71,7 @@ impl<G: Game> Frames<G> {
         ensures reach { OnOk result (reach self.new ≡ max (reach self.old) (frame_tic t)) }
         ensures none_dropped { reach self.old ≤ reach self.new }
         ensures none_past { reach self.new ≤ max (reach self.old) (frame_tic t) }
-        ensures belong { AreFrames G.Game game.now tics.now self.new }
+        ensures belong { StayFramesOn G.Game game.now tics.now self.old self.new }
         ensures tics_never_fall { steps.old.tics ≤ steps.new.tics }
         ensures pages_never_fall { steps.old.pages ≤ steps.new.pages }
     {

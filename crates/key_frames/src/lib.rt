@@ -7,6 +7,3 @@ mod play;
 
 pub use frames::Frames;
 pub use play::FRAME_TICS;
-
-#[cfg(test)]
-mod tests;

@@ -2,7 +2,7 @@
 ghost use Rattle.std.specs.Prelude.{◌≡◌, ◌+◌, ◌-◌, ◌*◌, ◌<◌, ◌≤◌, max, length, take, IfOk, OnOk};
 ghost use Rattle.doom_edge.specs.Counts.{raised};
 ghost use Rattle.game_trait.specs.Replay.{after_all, IsReplay};
-ghost use Rattle.key_frames.specs.Frames.{frame_tics, AreFrames};
+ghost use Rattle.key_frames.specs.Frames.{frame_tics, AreFramesOn, StayFramesOn};
 
 use doom_edge::{Memory, Steps};
 use game_trait::Game;
@@ -46,7 +46,7 @@ pub fn world_from<G: Game>(
     to: usize,
     steps: &mut Steps,
 ) -> Result<G::World, Memory>
-    requires belong { AreFrames G.Game game.now tics.now frames.old.items }
+    requires belong { AreFramesOn G.Game game.now tics.now frames.old.items }
     requires there { place < length frames.old.items }
     requires from { frame_tics * place ≤ to }
     requires inside { to ≤ length tics.now }
@@ -69,9 +69,9 @@ pub fn extend<G: Game>(
     tics: &[Tic],
     steps: &mut Steps,
 ) -> Result<(), Memory>
-    requires belong { AreFrames G.Game game.now tics.now frames.old.items }
+    requires belong { AreFramesOn G.Game game.now tics.now frames.old.items }
     requires inside { frame_tics * place ≤ length tics.now }
-    ensures belong { AreFrames G.Game game.now tics.now frames.new.items }
+    ensures belong { StayFramesOn G.Game game.now tics.now frames.old.items frames.new.items }
     ensures made { OnOk result (length frames.new.items ≡ max (length frames.old.items) (place + 1)) }
     ensures none_dropped { length frames.old.items ≤ length frames.new.items }
     ensures none_past { length frames.new.items ≤ max (length frames.old.items) (place + 1) }

@@ -7,4 +7,4 @@ invariant_of-self-2 g c =
     let new = c.accept.new.self in
     frames_keep g.G.Game old.game old.tape new old.frames c.cut.new.self
     c.cursor-place.result c.cursor-place.ensures.value c.self.invariant
-    (accept_keeps c.args.tics.now old.tape new c.in_ok-accept.ensures) c.cut.ensures.belong
+    (accept_keeps c.args.tics.now old.tape new c.in_ok-accept.ensures.edits) c.cut.ensures.belong

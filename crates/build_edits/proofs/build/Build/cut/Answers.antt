@@ -7,4 +7,4 @@ invariant_of-self-2 g c =
     let new = c.cut.new.self in
     frames_keep g.G.Game old.game old.tape new old.frames c.cut-2.new.self
     c.cursor-place.result c.cursor-place.ensures.value c.self.invariant
-    (cut_keeps old.tape new c.in_ok-cut.ensures) c.cut-2.ensures.belong
+    (cut_keeps old.tape new c.in_ok-cut.ensures.edits) c.cut-2.ensures.belong

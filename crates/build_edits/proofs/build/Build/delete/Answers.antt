@@ -7,4 +7,4 @@ invariant_of-self-2 g c =
     let new = c.delete.new.self in
     frames_keep g.G.Game old.game old.tape new old.frames c.cut.new.self
     c.cursor-place.result c.cursor-place.ensures.value c.self.invariant
-    (delete_keeps old.tape new c.in_ok-delete.ensures) c.cut.ensures.belong
+    (delete_keeps old.tape new c.in_ok-delete.ensures.edits) c.cut.ensures.belong

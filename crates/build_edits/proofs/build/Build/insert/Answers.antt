@@ -7,4 +7,4 @@ invariant_of-self-2 g c =
     let new = c.insert.new.self in
     frames_keep g.G.Game old.game old.tape new old.frames c.cut.new.self
     c.cursor-place.result c.cursor-place.ensures.value c.self.invariant
-    (insert_keeps c.args.tic old.tape new c.in_ok-insert.ensures) c.cut.ensures.belong
+    (insert_keeps c.args.tic old.tape new c.in_ok-insert.ensures.edits) c.cut.ensures.belong

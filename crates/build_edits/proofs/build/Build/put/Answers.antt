@@ -7,4 +7,4 @@ invariant_of-self-2 g c =
     let new = c.put.new.self in
     frames_keep g.G.Game old.game old.tape new old.frames c.cut.new.self
     c.cursor-place.result c.cursor-place.ensures.value c.self.invariant
-    (put_keeps c.args.tic old.tape new c.in_ok-put.ensures) c.cut.ensures.belong
+    (put_keeps c.args.tic old.tape new c.in_ok-put.ensures.edits) c.cut.ensures.belong

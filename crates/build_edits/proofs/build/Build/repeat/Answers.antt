@@ -7,4 +7,4 @@ invariant_of-self-2 g c =
     let new = c.repeat.new.self in
     frames_keep g.G.Game old.game old.tape new old.frames c.cut.new.self
     c.cursor-place.result c.cursor-place.ensures.value c.self.invariant
-    (repeat_keeps c.args.count old.tape new c.in_ok-repeat.ensures) c.cut.ensures.belong
+    (repeat_keeps c.args.count old.tape new c.in_ok-repeat.ensures.edits) c.cut.ensures.belong

@@ -1,8 +1,11 @@
-use Rattle.std.proofs.Common.{arith}
-use Rattle.build_edits.proofs.Places.{put_is}
+use Rattle.build_edits.proofs.Gaps.{put_is, not_at_end}
 use Rattle.build_edits.proofs.reel.Tape.put.Goals as goal
 
 pub returns : goal.returns
 returns c =
-    rw (← c.self.view_is)
-    (put_is _ _ _ c.args.tic c.self.invariant.0 (omega arith) c.in_ok-put_at.ensures.ok)
+    let tape = c.self.inside in
+    record {
+      edits = rw (← c.self.view_is)
+          (put_is tape.kept.items tape.cursor tape.gap c.args.tic
+          (not_at_end tape.kept.items tape.cursor tape.gap c.len.result c.args.self.now c.self.view_is c.self.invariant.inside c.len.ensures.len c.if-self-len.false));
+    }

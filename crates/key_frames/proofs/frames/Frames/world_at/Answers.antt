@@ -6,7 +6,7 @@ use Rattle.key_frames.proofs.frames.Frames.world_at.Goals as goal
 
 pub returns-clause-tics : goal.returns-clause-tics
 returns-clause-tics g c =
-    let opened = c.requires.belong.opened in
+    let opened = c.requires.belong.1.opened in
     let kept = ap length c.self.view_is in
     on_ok_weaker c.world_from.result
     (λ is. raised_on c.args.steps.now.tics c.extend.new.steps.tics c.world_from.new.steps.tics _ _ _

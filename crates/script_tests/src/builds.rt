@@ -1,5 +1,5 @@
-use crate::tests::{Edit, ahead};
-use crate::{Build, EditFault};
+use crate::edits::{Edit, ahead};
+use build_edits::{Build, EditFault};
 use doom_edge::{Memory, Steps};
 use sample_games::{SampleGame, SampleWorld};
 use std::alloc::Global;

@@ -1,4 +1,4 @@
-use crate::{EditFault, Tape};
+use build_edits::{EditFault, Tape};
 use lmp_codec::{MOST_TICS, Tic};
 use std::process::Abort;
 use std::test::Fail;
@@ -36,12 +36,22 @@ fn carry_out(tape: &mut Tape, edit: Edit) -> Result<(), EditFault> {
     }
 }
 
-/// The tape has tics that move ahead by so much, and its cursor at this place.
-fn assert_holds(rt: &impl Abort, tape: &Tape, forward: &[i8], cursor: u32) {
-    let tics = tape.tics();
-    assert_eq!(rt; tics.len(), forward.len());
-    assert!(rt; tics.iter().zip(forward).all(|(tic, f)| tic.forward == *f));
+/// The tape has tics that move ahead by so much, and its cursor at this place; and so it has once the cursor was moved
+/// to the end and back.
+fn assert_holds(rt: &impl Abort, tape: &mut Tape, forward: &[i8], cursor: u32) {
     assert_eq!(rt; tape.cursor(), cursor);
+    assert_eq!(rt; tape.len(), forward.len());
+    let before = tape.before();
+    assert_eq!(rt; before.len(), cursor as usize);
+    assert!(rt; before.iter().zip(forward).all(|(tic, f)| tic.forward == *f));
+    assert_eq!(rt; tape.seek(forward.len() as u32), Ok(()));
+    assert!(rt;
+        tape.before()
+            .iter()
+            .zip(forward)
+            .all(|(tic, f)| tic.forward == *f)
+    );
+    assert_eq!(rt; tape.seek(cursor), Ok(()));
 }
 
 #[test]
@@ -78,7 +88,7 @@ fn each_edit_does_what_its_command_says(rt: HostRuntime) {
         ),
     ] {
         assert_eq!(rt; carry_out(&mut tape, edit), answer);
-        assert_holds(&rt, &tape, forward, cursor);
+        assert_holds(&rt, &mut tape, forward, cursor);
     }
 }
 
@@ -97,15 +107,17 @@ fn a_full_tape_takes_no_more(rt: HostRuntime) -> Result<(), Fail> {
         assert_eq!(rt; tape.seek(place), Ok(()));
         assert_eq!(rt; carry_out(&mut tape, edit), answer);
         assert_eq!(rt; tape.cursor(), place);
-        assert_eq!(rt; tape.tics().len(), MOST_TICS);
+        assert_eq!(rt; tape.len(), MOST_TICS);
     }
-    assert!(rt; tape.tics().iter().all(|tic| tic.forward == 0));
+    assert_eq!(rt; tape.seek(1_000_000), Ok(()));
+    assert!(rt; tape.before().iter().all(|tic| tic.forward == 0));
+    assert_eq!(rt; tape.seek(999_999), Ok(()));
     for _ in 0..100_000 {
         assert_eq!(rt; tape.delete(), Ok(()));
         assert_eq!(rt; tape.put(ahead(1)), Ok(()));
         assert_eq!(rt; tape.seek(999_999), Ok(()));
     }
     assert_eq!(rt; tape.repeat(1), Ok(()));
-    assert_eq!(rt; tape.tics().len(), MOST_TICS);
+    assert_eq!(rt; tape.len(), MOST_TICS);
     Ok(())
 }

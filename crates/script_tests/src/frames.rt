@@ -1,9 +1,9 @@
-ghost use Rattle.std.specs.Prelude.{◌≡◌, length, IfOk};
+ghost use Rattle.std.specs.Prelude.{◌≡◌, ◌++◌, [], length, IfOk};
 ghost use Rattle.key_frames.specs.Frames.{AreFrames};
 
-use crate::Frames;
 use doom_edge::{Memory, Steps};
 use game_trait::Game;
+use key_frames::Frames;
 use lmp_codec::Tic;
 use sample_games::{SampleGame, SampleWorld};
 use std::alloc::Global;
@@ -45,8 +45,8 @@ fn assert_answers(
     frames: &mut Frames<SampleGame>,
     call: Call,
 )
-    requires { AreFrames ⟦<SampleGame as Game>⟧ game.now tics.now frames.old }
-    ensures { AreFrames ⟦<SampleGame as Game>⟧ game.now tics.now frames.new }
+    requires { AreFrames ⟦<SampleGame as Game>⟧ game.now (tics.now ++ []) frames.old }
+    ensures { AreFrames ⟦<SampleGame as Game>⟧ game.now (tics.now ++ []) frames.new }
 {
     match call {
         Call::WorldAt(to, taken) => {
