@@ -2,7 +2,7 @@
 use Rattle.std.proofs.Common.{◌≡◌, ℕ, zero, suc, ◌+◌, ◌*◌, ◌/◌, ◌%◌, ◌<◌, ◌≤◌, nat_le, cond, min, ap, arith, ⊎_elim, mul-le-mul_left, mul-le-mul_right, div-add-mod'}
 use Rattle.std.proofs.lemmas.Bool.{le-leb, cases_lt}
 use Rattle.std.proofs.lemmas.Nat.{mod_below}
-use Rattle.claim_board.specs.Views.{sum_below, block_count}
+use Rattle.search_core.specs.Numbers.{sum_below, block_count}
 use Rattle.claim_board.proofs.Sums.{one_if}
 
 -- 1 where block n starts at or above the count

@@ -10,7 +10,8 @@ use lib.ListN.{get_elem?}
 use Rattle.atomic_table.specs.Table.{State, step, keeps, Allows}
 use Rattle.claim_board.specs.declared.view.View.{View}
 use Rattle.claim_board.specs.declared.view.Key.{Key}
-use Rattle.claim_board.specs.Views.{claimed, looked, posted, spent, StartedBelowCount, HasTriedOpenBlock, block_count}
+use Rattle.search_core.specs.Numbers.{block_count}
+use Rattle.claim_board.specs.Views.{claimed, looked, posted, spent, StartedBelowCount, HasTriedOpenBlock}
 use Rattle.claim_board.specs.Rule.{times, past_count, claims_left, IsFit, IsSpentOrFit, IsKept}
 use Rattle.claim_board.specs.Steps.{Sat, Claims, Finds, Looks, Posts}
 use Rattle.claim_board.proofs.Sums.{one_if, All-at, sum-set, sums_le, sums_same, sum-flat, times-Contains, HasEachOnce, weighed}

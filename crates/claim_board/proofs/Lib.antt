@@ -2,4 +2,3 @@ pub mod Sums
 pub mod Blocks
 pub mod Keeps
 pub mod Seats
-pub mod Marked

@@ -14,7 +14,8 @@ use Rattle.atomic_table.specs.Table.{step, keeps, opening, Allows, Splits, Joins
 use Rattle.atomic_table.proofs.Lists.{set_else}
 use Rattle.claim_board.specs.declared.view.View.{View}
 use Rattle.claim_board.specs.declared.view.Key.{Key}
-use Rattle.claim_board.specs.Views.{split_off, after_split, joined, spent, told, IsInBlock, HasEnded, IsOver, first_of, sum_below}
+use Rattle.search_core.specs.Numbers.{first_of, sum_below}
+use Rattle.claim_board.specs.Views.{split_off, after_split, joined, spent, told, IsInBlock, HasEnded, IsOver}
 use Rattle.claim_board.specs.Views as views
 use Rattle.claim_board.specs.Rule.{times, IsFit, IsSpentOrFit, IsKept}
 use Rattle.claim_board.specs.Steps.{Sat, tells}

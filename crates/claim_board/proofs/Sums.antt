@@ -5,7 +5,7 @@ use Rattle.std.proofs.lemmas.List.Elements.{All-head, All-tail, All-set, All-con
 use Rattle.std.proofs.lemmas.Bool.{cases_eq, eq-eqb, ne_eqb, lt-ltb, le-ltb, cases_lt}
 use mathlib.Core.Option.{some, some-injective, some-ne-none}
 use lib.ListN.{get_elem?}
-use Rattle.claim_board.specs.Views.{sum_below}
+use Rattle.search_core.specs.Numbers.{sum_below}
 use Rattle.claim_board.specs.Rule.{times}
 
 -- 1 where the test holds

@@ -4,7 +4,8 @@ use Rattle.std.specs.Prelude.{◌≡◌, ℕ, ◌+◌, ◌<◌, ◌≤◌, List,
 use Rattle.std.specs.Option.{ForSome}
 use Rattle.atomic_table.specs.Table.{Me, Step}
 use Rattle.claim_board.specs.declared.view.View.{View}
-use Rattle.claim_board.specs.Views.{claimed, looked, posted, told, IsLeastWord, block_count}
+use Rattle.search_core.specs.Numbers.{block_count}
+use Rattle.claim_board.specs.Views.{claimed, looked, posted, told, IsLeastWord}
 
 -- A seat of the table, which holds no slots
 abbrev pub Sat : Type 0

@@ -1,7 +1,6 @@
 -- What a seat knows at first, and how each step changes it.
-use Rattle.std.specs.Prelude.{◌≡◌, ℕ, zero, suc, ◌+◌, ◌-◌, ◌*◌, ◌<◌, ◌≤◌, ◌⊎◌, min, List, [], ◌∷◌, ◌++◌, None, Some, Contains, slice_get, unwrap_or}
+use Rattle.std.specs.Prelude.{◌≡◌, ℕ, ◌+◌, ◌-◌, ◌*◌, ◌<◌, ◌≤◌, ◌⊎◌, min, List, [], ◌∷◌, ◌++◌, None, Some, Contains}
 use Rattle.std.specs.Option.{ForSome}
-use Rattle.std.specs.Int.{div_ceil}
 use Rattle.claim_board.specs.declared.view.View.{View}
 
 -- The first seat of a board for `count` numbers in blocks of `block`, of which those in `meets` meet
@@ -67,16 +66,3 @@ IsOver v = (n : ℕ) × (v.last ≡ Some n) × (v.seen ≤ n * v.block)
 -- The number stands in the least word at some time: the count, or a number that meets
 abbrev pub IsLeastWord : View → ℕ → Type 0
 IsLeastWord v least = (least ≡ v.count) ⊎ Contains v.meets least
-
--- How many blocks the numbers below the count fill, the last one maybe in part
-abbrev pub block_count : ℕ → ℕ → ℕ
-block_count count block = div_ceil count block
-
--- The first number that meets, of those that rise, or the count where none does
-abbrev pub first_of : ℕ → List ℕ → ℕ
-first_of count meets = unwrap_or (slice_get meets 0) count
-
--- f of each number below n, added up
-abbrev pub sum_below : (ℕ → ℕ) → ℕ → ℕ
-sum_below f zero = 0
-sum_below f (suc n) = sum_below f n + f n

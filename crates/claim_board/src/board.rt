@@ -2,7 +2,8 @@
 ghost use Rattle.std.specs.Prelude.{◌≡◌, ℕ, ◌+◌, ◌^◌, ◌<◌, ◌≤◌, List, All, Contains, IfOk, sum_by};
 ghost use Rattle.std.specs.Option.{ForSome};
 ghost use Rattle.std.specs.List.Sorted.{IsStrictlyIncreasing};
-ghost use Rattle.claim_board.specs.Views.{opening, split_off, after_split, claimed, looked, posted, joined, IsInOpenBlock, StartedBelowCount, HasTriedOpenBlock, HasEnded, IsOver, IsLeastWord, block_count, first_of, sum_below};
+ghost use Rattle.search_core.specs.Numbers.{block_count, first_of, sum_below};
+ghost use Rattle.claim_board.specs.Views.{opening, split_off, after_split, claimed, looked, posted, joined, IsInOpenBlock, StartedBelowCount, HasTriedOpenBlock, HasEnded, IsOver, IsLeastWord};
 ghost use Rattle.claim_board.specs.Rule.{times};
 ghost use Rattle.claim_board.specs.Seated.{Seated, IsSeatOf};
 
@@ -87,8 +88,8 @@ impl Board {
         }
     }
 
-    /// The number of a block that nobody had claimed. It is the seat's open block now: one that starts past the
-    /// count, or above the least number found, ends the seat's work. One `fetch_add` on the word `next`.
+    /// The number of a block that nobody had claimed. It is the seat's open block now: one that starts at or
+    /// above the least number that the seat has seen, at first the count, ends its work. One `fetch_add` on the word `next`.
     pub fn claim(&self, seat: &mut Seat) -> u64
         requires seat { IsSeatOf self.now seat.old }
         requires started { StartedBelowCount seat.old.view }
@@ -137,9 +138,8 @@ impl Board {
         requires ended { HasEnded other.view }
         ensures { seat.new ≡ record seat.old { view = joined seat.old.view other.view } }
     {
-        self.table
-            .shared
-            .join_seat::<TakeIn>(&mut seat.seat, other.seat);
+        let shared = &self.table.shared;
+        shared.join_seat::<TakeIn>(&mut seat.seat, other.seat);
     }
 
     /// The first number that meets, or the count where none does. All other seats were joined into this one.

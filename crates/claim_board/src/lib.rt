@@ -19,8 +19,6 @@
 mod board;
 mod memory;
 mod rule;
-#[cfg(test)]
-mod tests;
 mod view;
 
 pub use board::{Board, Seat};

@@ -12,8 +12,9 @@ use Rattle.search_core.specs.declared.hand.Phase.{Phase}
 use Rattle.search_core.specs.declared.hand.Phase.TheVariants as phases
 use Rattle.search_core.specs.declared.hand.Answer.TheVariants as answers
 use Rattle.search_core.specs.declared.machine.Turn.TheVariants as turns
-use Rattle.search_core.specs.Hand.{Standing, fresh, told, block_count, start_at, end_at, open_end, IsHand, InOpen, FitsPhase, AheadIn, IsAhead, PostsIn, PostsMet, IsTry, number_in}
-use Rattle.search_core.specs.Machine.{Machine, hand_at, turned, turned_in, turn_in, verdict, tried, Covers, IsMachine, IsHandOf, work, work_of, ended_in, has_ended, AllOver, IsMeets, Fits, is_in, first_of}
+use Rattle.search_core.specs.Hand.{Standing, fresh, told, start_at, end_at, open_end, IsHand, InOpen, FitsPhase, AheadIn, IsAhead, PostsIn, PostsMet, IsTry, number_in}
+use Rattle.search_core.specs.Machine.{Machine, hand_at, turned, turned_in, turn_in, verdict, tried, Covers, IsMachine, IsHandOf, work, work_of, ended_in, has_ended, AllOver, IsMeets, Fits, is_in}
+use Rattle.search_core.specs.Numbers.{block_count, first_of}
 
 -- one hand is put in another's place: the others keep what they have ahead of them
 pub covers-set : (core : Machine) (i next least : ℕ) (hand : Standing) (left : ℕ → Bool) → i < length core.hands → least ≤ core.least
@@ -65,7 +66,7 @@ post_ahead hand k m e below ahead = let here = rw e at ahead in omega (arith, he
 claim_not_ahead : (hand : Standing) (m : ℕ) → hand.phase ≡ phases.Claim → IsAhead hand m → ⊥
 claim_not_ahead hand m e ahead = rw e at ahead
 
-hand_of : (core : Machine) (i : ℕ) → IsMachine core → i < length core.hands → IsHandOf core (hand_at core i)
+pub hand_of : (core : Machine) (i : ℕ) → IsMachine core → i < length core.hands → IsHandOf core (hand_at core i)
 hand_of core i sound within = sound.hands i (fresh core.count core.block) within
 
 -- a turn keeps what is covered
@@ -422,7 +423,7 @@ none_covered core left sound over covers n marked below =
     ]
 
 -- the first number of a rising list is at most each of its numbers
-first_is_least : (count : ℕ) (meets : List ℕ) → IsMeets count meets → (n : ℕ) → is_in meets n ≡ true → (first_of count meets ≤ n) × (n < count)
+pub first_is_least : (count : ℕ) (meets : List ℕ) → IsMeets count meets → (n : ℕ) → is_in meets n ≡ true → (first_of count meets ≤ n) × (n < count)
 first_is_least count [] list n h = absurd (false≢true h)
 first_is_least count (x ∷ xs) list n h = at_place (Any-from_list_any (λ m. nat_eq m n) (x ∷ xs) h)
   where
@@ -440,7 +441,7 @@ first_is_least count (x ∷ xs) list n h = at_place (Any-from_list_any (λ m. na
         let here : get_or (x ∷ xs) k 0 ≡ n = get_or_default (x ∷ xs) k 0 m within ∙ is ∙ same in
         (omega (arith, rising k within, here), omega (arith, list.1 k 0 within, here))
 
-first_is_in : (count : ℕ) (meets : List ℕ) → (first_of count meets ≡ count) ⊎ (is_in meets (first_of count meets) ≡ true)
+pub first_is_in : (count : ℕ) (meets : List ℕ) → (first_of count meets ≡ count) ⊎ (is_in meets (first_of count meets) ≡ true)
 first_is_in count [] = inl refl
 first_is_in count (x ∷ xs) = inr (or_left (nat_eq x x) (is_in xs x) (eq-eqb x x refl))
 

@@ -1,16 +1,22 @@
 -- The turns that are left of an order and of a round.
-use Rattle.std.proofs.Common.{zero, suc, add-one, ◌≡◌, ℕ, ◌+◌, ◌-◌, ◌<◌, ◌≤◌, Bool, true, false, List, [], ◌∷◌, ◌++◌, length, get_or, drop, refl, sym, ◌∙◌, ap, subst, inl, inr, arith, drop-cons, length-set}
+use Rattle.std.proofs.Common.{zero, suc, add-one, ◌≡◌, ℕ, ◌+◌, ◌-◌, ◌<◌, ◌≤◌, Bool, true, false, Option, List, [], ◌∷◌, ◌++◌, length, get_or, drop, refl, sym, ◌∙◌, ap, subst, inl, inr, arith, drop-cons, length-set}
 use Rattle.std.specs.Prelude.{All}
 use Rattle.std.proofs.lemmas.Bool.{cases_lt}
 use Rattle.std.proofs.lemmas.List.{drop_all, length-replicate}
 use Rattle.std.proofs.lemmas.List.Elements.{recursion_from_All, All-drop}
-use Rattle.search_core.specs.Machine.{Machine, opening, hand_at, turned, turned_in, turn_in, tried, step, step_in, ended_in, work, AllOver, IsMachine, Covers, Fits, is_in, first_of}
-use Rattle.search_core.specs.Hand.{fresh, IsTry, number_in}
+use Rattle.search_core.specs.Machine.{Machine, opening, hand_at, turned, turn_in, tried, verdict, step, step_in, ended_in, AllOver, IsMachine, Covers, Fits, is_in}
+use Rattle.search_core.specs.Numbers.{first_of}
+use Rattle.search_core.specs.Hand.{Standing, fresh, told, IsTry, number_in}
 use Rattle.search_core.specs.declared.hand.Phase.{Phase}
 use Rattle.search_core.specs.declared.hand.Phase.TheVariants as phases
 use Rattle.search_core.specs.declared.machine.Turn.TheVariants as turns
-use Rattle.search_core.specs.Order.{numbers_from, is_over, events, left_of, greatest, hands_of, events_of, hand_next, number_next, AsksIn, Asks, IsSchedule, RunsNext, Progress, Follows, Carries}
-use Rattle.search_core.proofs.Steps.{keeps-turned, fits-tried, covers-tried, over-first, count-turned, work-turned, try_phase}
+use Rattle.search_core.specs.Order.{numbers_from, is_over, events, greatest, hands_of, events_of, hand_next, number_next, AsksIn, Asks, Progress, Follows}
+use Rattle.search_core.specs.Trail.{HaveTried, TriesNow}
+use Rattle.search_core.specs.Dues.{left_to}
+use Rattle.search_core.specs.Keeps.{KeepsOn, Carries}
+use Rattle.search_core.specs.Schedules.{left_of, IsSchedule, RunsNext}
+use Rattle.search_core.proofs.Steps.{keeps-turned, fits-tried, covers-tried, over-first, try_phase}
+use Rattle.search_core.proofs.Kept.{hands-turned, keeps_on-turned, keeps_on-same, keeps_on-both, have_tried-tried, left_to-tried}
 use Rattle.search_core.proofs.Runs.{InRange, events-over, in_range-append, in_range-numbers, events-step, events-before_round, events-skip, events-round}
 
 -- one more place
@@ -91,9 +97,7 @@ carries_same old now core taken turns = record {
     fits = rw core h.fits;
     turns = omega (arith, h.turns, turns (is_in meets));
   };
-  covers = λ left h. rw core h;
-  count = rw core refl;
-  work = rw core (omega arith);
+  core = keeps_on-same old.core now.core core;
 }
 
 -- the hand that an order and a round name next
@@ -184,16 +188,6 @@ next_follows core order place at taken meets all next is some_hand running steps
     ∙ ap (λ n. events (is_in meets) (step (is_in meets) core (get_or (left_of order place at (length core.hands)) 0 0)) (drop 1 (left_of order place at n))) many in
     record { fits = fits; turns = omega (arith, h.turns, counted, same) }
 
-hands-turned : (core : Machine) (i : ℕ) → length (turned core i).hands ≡ length core.hands
-hands-turned core i = by_phase (hand_at core i).phase
-  where
-    by_phase : (p : Phase) → length (turned_in core i (hand_at core i) p).hands ≡ length core.hands
-    by_phase phases.Claim = length-set core.hands i _
-    by_phase (phases.Look k) = length-set core.hands i _
-    by_phase (phases.Try k) = refl
-    by_phase (phases.Post k) = length-set core.hands i _
-    by_phase phases.Over = refl
-
 step-did : (meets : ℕ → Bool) (core : Machine) (i : ℕ) (p : Phase) → turn_in p ≡ turns.Did → turned core i ≡ step_in meets core i p
 step-did meets core i phases.Claim did = refl
 step-did meets core i (phases.Look k) did = refl
@@ -238,9 +232,7 @@ turn_carries old now core next order place at taken hand same is =
         record {
           follows = λ meets all h. next_follows core order place at taken meets all next is runs.some_hand runs.running
               (to ∙ step-did (is_in meets) core i (hand_at core i).phase did') many (subst (λ (m : Machine). Fits meets m) (sym to) (keeps.fits meets h.fits)) h;
-          covers = λ left h. subst (λ (m : Machine). Covers left m) (sym to) (keeps.covers left h);
-          count = ap (λ (m : Machine). m.count) to ∙ count-turned core i;
-          work = subst (λ (m : Machine). work m ≤ work core) (sym to) (omega (arith, work-turned core i is.sound runs.hand did'));
+          core = subst (λ (m : Machine). KeepsOn core m) (sym to) (keeps_on-turned core i is.sound runs.hand did');
         }
 
 front_asks : (core : Machine) (left : List ℕ) → AsksIn core left → (0 < length left) × IsTry (hand_at core (get_or left 0 0)).phase
@@ -288,13 +280,37 @@ try_covers old now core next order place at taken hand met same =
     subst (λ (m : Machine). Covers left m) (sym to)
     (covers-tried core i (number_in (hand_at core i).phase) met left (omega (arith, comes)) (try_phase (hand_at core i).phase asked.1) misses h))
 
+-- the machine after a try that was answered, and what that keeps
+pub try_core : (old now : Progress) (core next : Machine) (order : List ℕ) (place at taken hand : ℕ) (met : Bool)
+    → (let seen : Progress = record { core = core; left = left_of order place at (length core.hands); taken = taken } in seen ≡ old)
+    → hand ≡ hand_next old → next ≡ tried core hand met
+    → (let made : Progress = record { core = next; left = drop 1 (left_of order place at (length next.hands)); taken = taken + 1 } in now ≡ made)
+    → now.core ≡ tried old.core (hand_next old) met
+try_core old now core next order place at taken hand met same comes tries_to made =
+    ap (λ (p : Progress). p.core) made ∙ tries_to ∙ ap (λ n. tried core n met) comes ∙ ap (λ (p : Progress). tried p.core (hand_next old) met) same
+
+pub try_tried : (old now : Progress) (met : Bool) → IsMachine old.core → Asks old → hand_next old < length old.core.hands → now.core ≡ tried old.core (hand_next old) met
+    → (last after : ℕ → Option ℕ) → TriesNow (hand_next old) (number_next old) last after → HaveTried last old.core → HaveTried after now.core
+try_tried old now met sound asks within to last after tries h =
+    let asked = front_asks old.core old.left asks in
+    subst (λ (m : Machine). HaveTried after m) (sym to)
+    (have_tried-tried old.core (hand_next old) (number_next old) met last after sound within (try_phase (hand_at old.core (hand_next old)).phase asked.1) tries h)
+
+pub try_left : (old now : Progress) (met : Bool) → hand_next old < length old.core.hands → now.core ≡ tried old.core (hand_next old) met → (left : Standing → ℕ)
+    → left_to left now.core + left (hand_at old.core (hand_next old)) ≡ left_to left old.core + left (told (hand_at old.core (hand_next old)) (verdict met))
+try_left old now met within to left =
+    subst (λ (m : Machine). left_to left m + left (hand_at old.core (hand_next old)) ≡ left_to left old.core + left (told (hand_at old.core (hand_next old)) (verdict met))) (sym to)
+    (left_to-tried left old.core (hand_next old) met within)
+
+-- the number of the hand that is to try one
+pub asks_phase : (search : Progress) → Asks search → (hand_at search.core (hand_next search)).phase ≡ phases.Try (number_next search)
+asks_phase search asks = try_phase (hand_at search.core (hand_next search)).phase (front_asks search.core search.left asks).1
+
 -- what is kept from one moment to the next is kept over both
 pub carries_on : (a b c : Progress) → Carries a b → Carries b c → Carries a c
 carries_on a b c first second = record {
   follows = λ meets all h. second.follows meets all (first.follows meets all h);
-  covers = λ left h. second.covers left (first.covers left h);
-  count = second.count ∙ first.count;
-  work = omega (arith, first.work, second.work);
+  core = keeps_on-both a.core b.core c.core first.core second.core;
 }
 
 -- where all hands have ended, and nothing is left of the order and of the round

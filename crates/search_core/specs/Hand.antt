@@ -1,6 +1,6 @@
 -- One hand of the search, as a table of phases.
 use Rattle.std.specs.Prelude.{◌≡◌, ℕ, ◌+◌, ◌*◌, ◌^◌, ◌<◌, ◌≤◌, Bool, true, false, min, nat_lt, nat_eq, if◌then◌else◌, Option, Some, None, IfSome, IsSomeAnd}
-use Rattle.std.specs.Int.{div_ceil}
+use Rattle.search_core.specs.Numbers.{block_count}
 use Rattle.search_core.specs.declared.hand.Phase.{Phase}
 use Rattle.search_core.specs.declared.hand.Phase.TheVariants as phases
 use Rattle.search_core.specs.declared.hand.Ask.{Ask}
@@ -19,10 +19,6 @@ pub record Standing : Type 0 where
 -- a hand that has done nothing
 abbrev pub fresh : ℕ → ℕ → Standing
 fresh count block = record { count = count; block = block; phase = phases.Claim; seen = count; last = None }
-
--- how many blocks the numbers fill, the last one maybe in part
-abbrev pub block_count : ℕ → ℕ → ℕ
-block_count count block = div_ceil count block
 
 -- the first number of a block, and the number after its last one; of no block, 0 and 0
 abbrev pub start_at : ℕ → Option ℕ → ℕ

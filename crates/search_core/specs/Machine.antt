@@ -1,5 +1,5 @@
 -- Several hands over two shared numbers.
-use Rattle.std.specs.Prelude.{◌≡◌, ℕ, ◌+◌, ◌-◌, ◌*◌, ◌^◌, ◌<◌, ◌≤◌, ◌⊎◌, Bool, true, false, min, nat_eq, if◌then◌else◌, IfSome, List, [], ◌∷◌, length, slice_index_or, slice_set, slice_get, unwrap_or, replicate, All, count_by, sum_by}
+use Rattle.std.specs.Prelude.{◌≡◌, ℕ, ◌+◌, ◌-◌, ◌*◌, ◌^◌, ◌<◌, ◌≤◌, ◌⊎◌, Bool, true, false, min, nat_eq, if◌then◌else◌, IfSome, List, [], ◌∷◌, length, slice_index_or, slice_set, replicate, All, count_by, sum_by}
 use Rattle.std.specs.List.{list_any}
 use Rattle.std.specs.List.Sorted.{IsStrictlyIncreasing}
 use Rattle.search_core.specs.declared.hand.Phase.{Phase}
@@ -8,7 +8,8 @@ use Rattle.search_core.specs.declared.hand.Answer.{Answer}
 use Rattle.search_core.specs.declared.hand.Answer.TheVariants as answers
 use Rattle.search_core.specs.declared.machine.Turn.{Turn}
 use Rattle.search_core.specs.declared.machine.Turn.TheVariants as turns
-use Rattle.search_core.specs.Hand.{Standing, fresh, told, block_count, open_end, IsHand, IsAhead, PostsMet}
+use Rattle.search_core.specs.Numbers.{block_count}
+use Rattle.search_core.specs.Hand.{Standing, fresh, told, open_end, IsHand, IsAhead, PostsMet}
 
 -- the shared numbers and the hands
 pub record Machine : Type 0 where
@@ -113,10 +114,6 @@ is_in meets n = list_any (λ m. nat_eq m n) meets
 abbrev pub IsMeets : ℕ → List ℕ → Type 0
 IsMeets count meets = IsStrictlyIncreasing meets × All (λ n. n < count) meets
 
--- the first number that meets, or the count where none does
-abbrev pub first_of : ℕ → List ℕ → ℕ
-first_of count meets = unwrap_or (slice_get meets 0) count
-
 -- the number will still be tried: nobody has claimed its block, or it is ahead of a hand in its open block
 abbrev pub IsAwaited : Machine → ℕ → Type 0
 IsAwaited core n = (core.next * core.block ≤ n) ⊎ ((i : ℕ) × (i < length core.hands) × IsAhead (hand_at core i) n)
@@ -143,6 +140,11 @@ work_in hand phases.Over = 0
 -- the turns that are left to all hands at most. It falls with each turn that is no turn of a hand that has ended
 abbrev pub work_of : Standing → ℕ
 work_of hand = work_in hand hand.phase
+
+-- after a claim a hand has no more than its whole block left, and after any other answer less than before
+abbrev pub LeavesLess : Standing → Answer → Standing → Type 0
+LeavesLess old (answers.Block n) new = work_of new ≤ 2 * old.block + 2
+LeavesLess old answer new = work_of new < work_of old
 
 abbrev pub work : Machine → ℕ
 work core = 4 * (core.count - core.next * core.block) + sum_by work_of core.hands

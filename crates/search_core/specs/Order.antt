@@ -1,7 +1,7 @@
 -- Whole runs, and the number of turns under an order.
-use Rattle.std.specs.Prelude.{◌≡◌, ℕ, zero, suc, ◌+◌, ◌-◌, ◌^◌, ◌<◌, ◌≤◌, Bool, false, max, if◌then◌else◌, List, [], ◌∷◌, ◌++◌, length, drop, All, slice_index}
+use Rattle.std.specs.Prelude.{◌≡◌, ℕ, zero, suc, ◌+◌, ◌^◌, ◌<◌, ◌≤◌, Bool, max, if◌then◌else◌, List, [], ◌∷◌, ◌++◌, length, slice_index}
 use Rattle.search_core.specs.Hand.{IsTry, number_in}
-use Rattle.search_core.specs.Machine.{Machine, opening, hand_at, has_ended, step, work, is_in, IsMeets, IsMachine, Covers, Fits}
+use Rattle.search_core.specs.Machine.{Machine, opening, hand_at, has_ended, step, work, is_in, IsMeets, Fits}
 
 -- so many numbers from i on
 abbrev pub numbers_from : ℕ → ℕ → List ℕ
@@ -75,27 +75,3 @@ hand_next search = slice_index search.left 0
 
 abbrev pub number_next : Progress → ℕ
 number_next search = number_in (hand_at search.core (hand_next search)).phase
-
--- the hands that are left of an order from a place on, and of a round from a hand on
-abbrev pub left_of : List ℕ → ℕ → ℕ → ℕ → List ℕ
-left_of order place at hands = drop place order ++ numbers_from at (hands - at)
-
--- what is true of every schedule
-pub record IsSchedule (core : Machine) (order : List ℕ) (at taken : ℕ) : Type 0 where
-  pub sound : IsMachine core
-  pub hands : All (λ i. i < length core.hands) order
-  pub round : at ≤ length core.hands
-  pub few : taken + work core ≤ 2 ^ 43
-
--- the hand whose turn comes next has not ended
-pub record RunsNext (search : Progress) : Type 0 where
-  pub some_hand : 0 < length search.left
-  pub hand : hand_next search < length search.core.hands
-  pub running : is_over search.core (hand_next search) ≡ false
-
--- what a search keeps as it goes on
-pub record Carries (old new : Progress) : Type 0 where
-  pub follows : (meets : List ℕ) (all : ℕ) → Follows meets all old → Follows meets all new
-  pub covers : (left : ℕ → Bool) → Covers left old.core → Covers left new.core
-  pub count : new.core.count ≡ old.core.count
-  pub work : work new.core ≤ work old.core

@@ -1,7 +1,9 @@
 //! One hand: what it asks for next, and what it does with each answer.
 
-ghost use Rattle.std.specs.Prelude.{◌≡◌, ℕ, ◌+◌, ◌*◌, ◌^◌, ◌<◌, ◌≤◌, Bool, true, false, min, nat_lt, nat_eq, if◌then◌else◌, Option, IfSome, IsSomeAnd};
+ghost use Rattle.std.specs.Prelude.{◌≡◌, ℕ, ◌+◌, ◌*◌, ◌^◌, ◌<◌, ◌≤◌, Bool, true, false, min, nat_lt, nat_eq, if◌then◌else◌, Option, None, IfSome, IsSomeAnd};
 ghost use Rattle.search_core.specs.Hand.{Standing, fresh, told, ask_of, Answers, IsHand, InOpen, LeavesNone, NoneLeft, HoldsIfMissed, HoldsIfMet, PostsMet, IfTry, IfPost, Matches, end_at};
+ghost use Rattle.search_core.specs.Machine.{LeavesLess};
+ghost use Rattle.search_core.specs.Trail.{ComesTo, HasTried, ClaimsAbove, tried_after};
 
 use std::marker::Model;
 
@@ -145,6 +147,7 @@ impl Hand {
         ensures sound { IsHand result }
         ensures leaves { (left : ℕ → Bool) → LeavesNone left result }
         ensures posts { (meets : ℕ → Bool) → PostsMet meets result }
+        ensures tried { HasTried None result }
     {
         Hand {
             count,
@@ -168,6 +171,8 @@ impl Hand {
         ensures tries { IfTry result (λ k. InOpen self.now k × (k < self.now.seen)) }
         ensures posts { IfPost result (λ k. InOpen self.now k × (k < self.now.seen)) }
         ensures post_meets { (meets : ℕ → Bool) → PostsMet meets self.now → IfPost result (λ k. meets k ≡ true) }
+        // It tries the numbers of a block one after the other.
+        ensures comes { (last : Option ℕ) → HasTried last self.now → IfTry result (ComesTo last self.now) }
         // The last claim of one that is over starts at or above the least seen.
         ensures over { result ≡ Ask.Over → IsSomeAnd self.now.last (λ n. self.now.seen ≤ n * self.now.block) }
     {
@@ -187,6 +192,8 @@ impl Hand {
         ensures sound { IsHand self.new }
         ensures leaves { (left : ℕ → Bool) → HoldsIfMissed left self.old answer → LeavesNone left self.old → LeavesNone left self.new }
         ensures posts { (meets : ℕ → Bool) → HoldsIfMet meets self.old answer → PostsMet meets self.new }
+        ensures work { LeavesLess self.old answer self.new }
+        ensures tried { (last : Option ℕ) → ClaimsAbove self.old answer → HasTried last self.old → HasTried (tried_after last self.old answer) self.new }
     {
         match (self.phase, answer) {
             (Phase::Claim, Answer::Block(block)) => {

@@ -3,7 +3,8 @@
 ghost use Rattle.std.specs.Prelude.{◌≡◌, ℕ, ◌+◌, ◌*◌, ◌^◌, ◌<◌, ◌≤◌, ◌⊎◌, Bool, List, length, true, false, if◌then◌else◌, IfOk, IsTrue, ◌≢◌, replicate};
 ghost use Rattle.search_core.specs.Hand.{IsTry, number_in, fresh};
 ghost use Rattle.search_core.specs.Order.{is_over};
-ghost use Rattle.search_core.specs.Machine.{Machine, opening, hand_at, turned, turn_in, verdict, tried, AllOver, IsMachine, IsMeets, is_in, first_of, Covers, Fits, work, has_ended, IfTurnTries};
+ghost use Rattle.search_core.specs.Machine.{Machine, opening, hand_at, turned, turn_in, verdict, tried, AllOver, IsMachine, IsMeets, is_in, Covers, Fits, work, has_ended, IfTurnTries};
+ghost use Rattle.search_core.specs.Numbers.{first_of};
 
 use crate::hand::{Answer, Ask, Hand, Phase};
 use std::alloc::Global;

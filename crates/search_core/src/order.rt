@@ -1,8 +1,15 @@
 //! Turns under an order: first those that the order names, then round after round, until all hands have ended.
 
-ghost use Rattle.std.specs.Prelude.{◌≡◌, ◌≢◌, ℕ, ◌+◌, ◌-◌, ◌*◌, ◌^◌, ◌<◌, ◌≤◌, ◌⊎◌, ◌↔◌, Bool, true, false, List, length, drop, ◌++◌, All, IsTrue, IfOk, IfSome, IsNone, OnSome, slice_index, slice_index_or};
-ghost use Rattle.search_core.specs.Machine.{Machine, opening, AllOver, IsMachine, IsMeets, is_in, first_of, Covers, Fits, work, run, IfTurnTries};
-ghost use Rattle.search_core.specs.Order.{IsSearch, Asks, hand_next, number_next, numbers_from, rounds, is_over, taken, events, events_of, hands_of, greatest, Progress, Follows, Carries, RunsNext, left_of};
+ghost use Rattle.std.specs.Prelude.{◌≡◌, ◌≢◌, ℕ, ◌+◌, ◌-◌, ◌*◌, ◌^◌, ◌<◌, ◌≤◌, ◌⊎◌, ◌↔◌, Bool, true, false, List, length, drop, ◌++◌, All, IsTrue, IfOk, IfSome, IsNone, OnSome, Option, None, slice_index, slice_index_or};
+ghost use Rattle.search_core.specs.declared.hand.Phase.TheVariants as phases;
+ghost use Rattle.search_core.specs.Numbers.{first_of};
+ghost use Rattle.search_core.specs.Hand.{Standing, told};
+ghost use Rattle.search_core.specs.Machine.{Machine, opening, hand_at, tried, verdict, AllOver, IsMachine, IsMeets, is_in, Covers, Fits, work, run, IfTurnTries};
+ghost use Rattle.search_core.specs.Order.{IsSearch, Asks, hand_next, number_next, numbers_from, rounds, is_over, taken, events, events_of, hands_of, greatest, Progress, Follows};
+ghost use Rattle.search_core.specs.Trail.{HaveTried, TriesNow};
+ghost use Rattle.search_core.specs.Dues.{left_to};
+ghost use Rattle.search_core.specs.Keeps.{Carries};
+ghost use Rattle.search_core.specs.Schedules.{RunsNext, left_of};
 
 use crate::machine::{Core, Memory, Turn};
 use std::alloc::Global;
@@ -51,7 +58,8 @@ pub struct Schedule {
 
 impl Model for Schedule {
     ghost use Rattle.std.specs.Prelude.{length};
-    ghost use Rattle.search_core.specs.Order.{Progress, left_of, IsSchedule};
+    ghost use Rattle.search_core.specs.Order.{Progress};
+    ghost use Rattle.search_core.specs.Schedules.{left_of, IsSchedule};
 
     ghost Value = { Progress };
 
@@ -127,6 +135,7 @@ impl Schedule {
         ensures core { IfOk result (λ search. search.core ≡ opening count block (hands_of order.now)) }
         ensures follows { IfOk result (λ search. (meets : List ℕ) → IsMeets count meets → Follows meets (events_of count block meets order.now) search) }
         ensures covers { IfOk result (λ search. (left : ℕ → Bool) → Covers left search.core) }
+        ensures tried { IfOk result (λ search. HaveTried (λ _. None) search.core) }
     {
         let core = Core::new(alloc, count, block, hands_for(order))?;
         let order = copy_of(alloc, order)?;
@@ -142,7 +151,8 @@ impl Schedule {
     /// Passes over the hands that have ended, and says whether there is one that has not.
     fn skip(&mut self) -> bool
         ensures core { self.new.core ≡ self.old.core }
-        ensures carries { Carries self.old self.new }
+        ensures taken { self.new.taken ≡ self.old.taken }
+        ensures turns { (meets : ℕ → Bool) → events meets self.new.core self.new.left ≡ events meets self.old.core self.old.left }
         ensures found { IsTrue result → RunsNext self.new }
         ensures none { result ≡ false → AllOver self.new.core }
         ensures ended { result ≡ false → (meets : ℕ → Bool) → events meets self.new.core self.new.left ≡ 0 }
@@ -189,6 +199,7 @@ impl Schedule {
         ensures carries { Carries self.old self.new }
         ensures did { result ≡ Turn.Did → work self.new.core < work self.old.core }
         ensures tries { IfTurnTries result (λ k. Asks self.new × (number_next self.new ≡ k) × (k < self.new.core.count)) }
+        ensures sound { IsMachine self.new.core }
         ensures never { result ≢ Turn.Over }
     {
         let hand = self.front();
@@ -204,10 +215,17 @@ impl Schedule {
     /// Takes turns until a hand is to try a number, and answers which; or until all hands have ended. The trial
     /// stays until `tried` is called.
     pub fn next_try(&mut self) -> Option<Trial>
+        // What holds of the search before holds after the claims, looks and posts on the way.
         ensures carries { Carries self.old self.new }
+        ensures sound { IsMachine self.new.core }
         ensures trial { IfSome result (λ trial. Asks self.new × (trial.hand ≡ hand_next self.new) × (trial.number ≡ number_next self.new)) }
+        ensures phase { IfSome result (λ trial. (hand_at self.new.core trial.hand).phase ≡ phases.Try trial.number) }
+        ensures there { IfSome result (λ trial. trial.hand < length self.new.core.hands) }
         ensures within { IfSome result (λ trial. trial.number < self.new.core.count) }
+
+        // Where no trial is left, all hands have ended, and every number below the least was tried or met.
         ensures over { IsNone result → AllOver self.new.core }
+        ensures none_left { IsNone result → (left : ℕ → Bool) → Covers left self.new.core → (n : ℕ) → left n ≡ true → n < self.new.core.least → ⊥ }
         ensures done { IsNone result → (meets : List ℕ) (all : ℕ) → Follows meets all self.new
             → (self.new.taken ≡ all) × (self.new.core.least ≡ first_of self.new.core.count meets) }
     {
@@ -227,12 +245,28 @@ impl Schedule {
             → Follows meets all self.old → Follows meets all self.new }
         ensures covers { (left : ℕ → Bool) → (met ≡ false → left (number_next self.old) ≡ false)
             → Covers left self.old.core → Covers left self.new.core }
-        ensures count { self.new.core.count ≡ self.old.core.count }
+        ensures core { self.new.core ≡ tried self.old.core (hand_next self.old) met }
+        ensures sound { IsMachine self.new.core }
         ensures work { work self.new.core < work self.old.core }
+        ensures tried { (last now : ℕ → Option ℕ) → TriesNow (hand_next self.old) (number_next self.old) last now
+            → HaveTried last self.old.core → HaveTried now self.new.core }
+        // What is left to the hands changes by that hand's alone.
+        ensures left { (left : Standing → ℕ) → let hand = hand_at self.old.core (hand_next self.old) in
+            left_to left self.new.core + left hand ≡ left_to left self.old.core + left (told hand (verdict met)) }
     {
         let hand = self.front();
         self.core.tried(hand, met);
         self.pass();
+    }
+
+    /// How many hands there are.
+    pub fn hands(&self) -> u32
+        ensures hands { result ≡ length self.now.core.hands }
+        ensures some_hand { 0 < result }
+        ensures few { result ≤ 64 }
+        ensures sound { IsMachine self.now.core }
+    {
+        self.core.hands()
     }
 
     /// How many turns were taken.
@@ -247,69 +281,5 @@ impl Schedule {
         ensures { result ≡ self.now.core.least }
     {
         self.core.least()
-    }
-}
-
-#[cfg(test)]
-mod tests {
-    use super::*;
-    use std::process::Abort;
-
-    /// Whether a step of 3904 for each whole `side` of the number and of 2048 for the rest comes to a length in a range.
-    fn is_in_reach(number: u64, side: u64, low: u64, high: u64) -> bool
-        requires { 0 < side }
-    {
-        let length = 3904u64
-            .saturating_mul(number / side)
-            .saturating_add(2048u64.saturating_mul(number % side));
-        low <= length && length <= high
-    }
-
-    /// The least number that is in reach and the number of turns, in blocks of 256 under an order.
-    fn search(
-        rt: &impl Abort,
-        alloc: Global,
-        side: u64,
-        low: u64,
-        high: u64,
-        order: &[u8],
-    ) -> Result<(u64, u64), Memory>
-        requires positive { 0 < side }
-        requires small { side < 1000 }
-    {
-        assert!(rt; order.iter().all(|hand| *hand < 64));
-        let mut search = Schedule::new(alloc, side * side, 256, order)?;
-        for _ in 0..100000 {
-            match search.next_try() {
-                Some(trial) => search.tried(is_in_reach(trial.number, side, low, high)),
-                None => break,
-            }
-        }
-        Ok((search.least(), search.turns()))
-    }
-
-    #[test]
-    fn turns_under_orders(rt: HostRuntime) -> Result<(), Memory> {
-        let alloc = rt.alloc();
-        assert_eq!(rt; search(&rt, alloc, 3, 8000, 8000, &[])?, (5, 15));
-        assert_eq!(rt;
-            search(&rt, alloc, 3, 8000, 8000, &[0, 0, 1, 2, 1])?,
-            (5, 17)
-        );
-        assert_eq!(rt; search(&rt, alloc, 3, 8000, 8000, &[3, 3, 3, 0])?, (5, 18));
-        assert_eq!(rt; search(&rt, alloc, 20, 10240, 1000000, &[0, 1])?, (5, 20));
-        assert_eq!(rt;
-            search(
-                &rt,
-                alloc,
-                20,
-                10240,
-                1000000,
-                &[0, 0, 0, 0, 0, 0, 0, 0, 0, 0, 0, 0, 0, 0, 1]
-            )?,
-            (5, 18)
-        );
-        assert_eq!(rt; search(&rt, alloc, 3, 1, 1, &[])?.0, 9, "none");
-        Ok(())
     }
 }

@@ -1,5 +1,5 @@
 use Rattle.search_core.specs.Machine.{work}
-use Rattle.search_core.specs.Order.{Carries}
+use Rattle.search_core.specs.Keeps.{Carries}
 use Rattle.search_core.proofs.order.Schedule.next_try.Given as goal
 
 abbrev pub invariant-loop-self : goal.invariant-loop-self
