@@ -1,0 +1,3 @@
+pub mod Lamps
+pub mod Keeps
+pub mod Begun

@@ -1,0 +1,18 @@
+use Rattle.std.proofs.Common.{◌∙◌, rules, arith, w16}
+use Rattle.std.proofs.lemmas.Int.{to_z-of_z}
+use Rattle.light_fx.proofs.Keeps.{keeps_two}
+use Rattle.light_fx.proofs.Begun.{tagged_fewer, tagged_on}
+use Rattle.light_fx.proofs.line_lights.light_least.Goals as goal
+
+pub loop-sector-smaller : goal.loop-sector-smaller
+loop-sector-smaller c = tagged_fewer c.args.level.now _ c.loop-sector.from c.in-Some.sector c.in-Some.ensures.found
+
+pub loop-sector-preserved : goal.loop-sector-preserved
+loop-sector-preserved c =
+    let light = to_z-of_z w16 c.least_light_around-light.result (record { sfits = c.least_light_around-light.type_inv }) ∙ c.least_light_around-light.ensures in (
+      tagged_on _ c.args.level.now _ _ _ c.set_light.new.world c.loop-sector.from c.in-Some.sector c.number_of-number.result c.loop-sector.invariant.0 c.in-Some.ensures.found c.in-Some.ensures.there c.number_of-number.ensures (rw light at c.in_ok-set_light.ensures.ok),
+      keeps_two _ _ _ c.loop-sector.invariant.1 c.in_ok-set_light.ensures.fits,
+      search (rules, c.in_ok-set_light.ensures.ok) ∙ c.loop-sector.invariant.2,
+      c.set_light.ensures.tics ∙ c.loop-sector.invariant.3,
+      omega (arith, c.set_light.ensures.pages, c.loop-sector.invariant.4),
+    )
