@@ -1,8 +1,11 @@
 -- One piece of work after the other: what each `?` gives.
-use Rattle.std.proofs.Common.{◌≡◌, Result, Ok, Err, refl, sym, subst}
+use Rattle.std.proofs.Common.{◌≡◌, ℕ, Result, Ok, Err, refl, sym, subst}
 use Rattle.std.specs.Prelude.{IsErrAnd}
 use Rattle.dsda_cli.specs.Judging.{Judgement, exactly, such_that, Then, goes_on, ends}
-use Rattle.dsda_cli.specs.Inside.{IsRight, Gives}
+use Rattle.dsda_cli.specs.Inside.{IsRight, Gives, Takes}
+use Rattle.dsda_cli.specs.Meaning.{Output, Work, with_cost}
+use Rattle.doom_edge.specs.Costs.{free}
+use Rattle.doom_edge.proofs.Costs.{rises_free}
 use Rattle.dsda_cli.specs.declared.product.Stop.{Stop}
 use Rattle.dsda_cli.specs.declared.product.Stop.TheVariants as stop
 
@@ -39,3 +42,8 @@ mapped_right seen f first (Err stop.Memory) right = tt
 -- what is left is to see the value as another
 pub mapped : {A B X : Type 0} {seen : X → A} (f : A → B) {first : Judgement A} {given : Result X Stop} → Gives seen given first → Gives (λ value. f (seen value)) given (Then first (λ value. exactly (Ok (f value))))
 mapped {seen = seen} f {first = first} {given = given} made = record { right = mapped_right seen f first given made.right }
+
+-- work without a step takes none
+pub takes_free : (given : Result Output Stop) (judgement : Judgement Work) (tics : ℕ) → Gives (λ output. with_cost output free) given judgement → Takes with_cost given judgement tics tics
+takes_free (Ok output) judgement tics made = record { cost = free; right = made.right; rises = rises_free tics tics refl }
+takes_free (Err why) judgement tics made = record { cost = free; right = made.right; rises = tt }

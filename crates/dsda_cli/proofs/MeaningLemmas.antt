@@ -6,7 +6,7 @@ use Rattle.std.proofs.lemmas.List.{length-take, take_all}
 use Rattle.std.specs.FinMap as map
 use Rattle.doom_edge.specs.Devices.{Files}
 use Rattle.dsda_cli.specs.Commands.{word_at, command_of, inputs_of, out_name}
-use Rattle.dsda_cli.specs.Meaning.{Work, contents, too_large, worked, worked_unless, answer_of, Unheld, outcome_under, Means, unheld, answered}
+use Rattle.dsda_cli.specs.Meaning.{Work, contents, too_large, worked, worked_unless, answer_of, Unheld, outcome_under, Means, unheld, answered, IsMeaning, over}
 use Rattle.dsda_cli.specs.Inside.{front_of}
 use Rattle.dsda_cli.specs.declared.command.Command.{Command}
 use Rattle.dsda_cli.specs.declared.command.Input.{Input}
@@ -96,8 +96,8 @@ same_answer command inputs wholes texts answer (inr large) right =
     rw large.first_whole (ap (λ (input : Input). Err (input_fault.Large input.word)) (sym large.same) ∙ rw large.first at right)
 
 -- what was taken means what the words and the files mean
-pub taken_meant : (told : Option Files) (words : List (List ℕ)) (command : Command) (texts : List (List ℕ)) (answer : Result Work InputFault) → command_of words ≡ Some command → IfSome told (λ files. map (front_of files words) (inputs_of command) ≡ map Some texts) → answer_of command texts answer → IfSome told (λ files. Means words files (outcome_under (out_name words command) answer))
-taken_meant None words command texts answer is taken right = tt
+pub taken_meant : (told : Option Files) (words : List (List ℕ)) (command : Command) (texts : List (List ℕ)) (answer : Result Work InputFault) → command_of words ≡ Some command → IfSome told (λ files. map (front_of files words) (inputs_of command) ≡ map Some texts) → answer_of command texts answer → IsMeaning words told (outcome_under (out_name words command) answer)
+taken_meant None words command texts answer is taken right = over command texts answer is right refl
 taken_meant (Some files) words command texts answer is taken right =
     let whole = wholes_of files words (inputs_of command) texts taken in
     answered command whole.wholes answer is whole.held (same_answer command (inputs_of command) whole.wholes texts answer (alike_of (inputs_of command) whole.wholes texts whole.fronts) right) refl

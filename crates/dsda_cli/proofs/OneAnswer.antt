@@ -1,16 +1,21 @@
 -- Work has one right answer.
 use Rattle.std.proofs.Common.{Bool, ◌≡◌, ℕ, List, Result, Ok, Err, Option, Some, None, refl, ap, sym, ◌∙◌, subst}
-use Rattle.first_fault.specs.FirstFault.{Condition}
-use Rattle.first_fault.proofs.Order.{one_outcome}
+use Rattle.fixed_angle.specs.FirstFault.{Condition}
+use Rattle.fixed_angle.proofs.Order.{one_outcome}
 use Rattle.doom_edge.specs.Devices.{Files}
 use Rattle.dsda_cli.specs.Commands.{inputs_of}
 use Rattle.dsda_cli.specs.Judging.{Judgement, exactly, judged, Then, goes_on, ends}
-use Rattle.dsda_cli.specs.Meaning.{scripted, edited, level_in, levelled, text_at, worked, worked_unless, too_large, answer_of, Outcome, Means, misused, unheld, answered}
+use Rattle.dsda_cli.specs.Meaning.{as_demo, scripted, edited, level_in, levelled, text_at, worked, worked_unless, too_large, answer_of, Outcome, Means, misused, unheld, answered}
 use Rattle.dsda_cli.specs.declared.command.Command.{Command}
 use Rattle.dsda_cli.specs.declared.command.Command.TheVariants as command
 use Rattle.dsda_cli.specs.declared.command.Input.{Input}
 use Rattle.dsda_cli.specs.declared.fault.InputFault.{InputFault}
 use Rattle.dsda_cli.specs.declared.fault.InputFault.TheVariants as input_fault
+use Rattle.lmp_codec.specs.Header.{is_long}
+use Rattle.lmp_codec.specs.Demo.{IsVerdict}
+use Rattle.lmp_codec.specs.declared.input.Tic.{Tic}
+use Rattle.lmp_codec.specs.declared.whole.Demo.{Demo}
+use Rattle.lmp_codec.specs.declared.fault.DemoFault.{DemoFault}
 use Rattle.wad_lumps.specs.Directory.{file_conditions}
 use Rattle.wad_lumps.specs.Map.{map_conditions, IsMap}
 use Rattle.fixed_angle.specs.TableFile.{table_conditions}
@@ -53,13 +58,26 @@ one_then {A} first next one_first one_next =
     let same : value ≡ other = cc in
     one_next other a b (subst (λ (value : A). next value a) same rest) rest')
 
-one_scripted : (script : List ℕ) (tics : List Rattle.lmp_codec.specs.declared.input.Tic.Tic) → IsOne (scripted script tics)
-unfolding scripted
-one_scripted script tics = one_then _ _ (one_exactly _) (λ entries. one_then _ _ (one_exactly _) (λ parts. one_exactly _))
+-- no text has two verdicts
+abbrev pub OneVerdict : Type 0
+OneVerdict = (text : List ℕ) (this other : Result Demo DemoFault) → IsVerdict text this → IsVerdict text other → this ≡ other
 
-one_edited : (demo script : List ℕ) → IsOne (edited demo script)
+one_demo : OneVerdict → (text : List ℕ) → IsOne (as_demo text)
+one_demo one text (Ok a) (Ok b) first second = let same = one text (Ok a) (Ok b) first second in let demo : a ≡ b = cc in ap Ok demo
+one_demo one text (Ok a) (Err f) first second = let same = one text (Ok a) (Err second.0) first second.1 in absurd cc
+one_demo one text (Err f) (Ok b) first second = let same = one text (Err first.0) (Ok b) first.1 second in absurd cc
+one_demo one text (Err f) (Err g) first second =
+    let same = one text (Err first.0) (Err second.0) first.1 second.1 in
+    let fault : first.0 ≡ second.0 = cc in
+    ap Err (first.2 ∙ ap input_fault.Demo fault ∙ sym second.2)
+
+one_scripted : (long : Bool) (script : List ℕ) (tics : List Tic) → IsOne (scripted long script tics)
+unfolding scripted
+one_scripted long script tics = one_then _ _ (one_exactly _) (λ entries. one_then _ _ (one_exactly _) (λ parts. one_exactly _))
+
+one_edited : OneVerdict → (demo script : List ℕ) → IsOne (edited demo script)
 unfolding edited
-one_edited demo script = one_then _ _ (one_exactly _) (λ before. one_then _ _ (one_scripted script before.tics) (λ tics. one_exactly _))
+one_edited verdict demo script = one_then _ _ (one_demo verdict demo) (λ before. one_then _ _ (one_scripted (is_long before.header) script before.tics) (λ tics. one_exactly _))
 
 -- what a WAD's directory says of a map, so far as a level comes from it, is said once
 abbrev pub OneMap : Type 0
@@ -85,35 +103,35 @@ one_level_in one_map wad header = one_then _ _ (one_judged (map_conditions wad (
     let same = one_map wad (episode_of header) (map_of header) found other is is' in
     same_level wad found other a b same.1 same.2 same.3 first second))
 
-one_levelled : OneMap → (wad tables demo : List ℕ) → IsOne (levelled wad tables demo)
+one_levelled : OneMap → OneVerdict → (wad tables demo : List ℕ) → IsOne (levelled wad tables demo)
 unfolding levelled
-one_levelled one_map wad tables demo =
-    one_then _ _ (one_judged (file_conditions wad) input_fault.Wad) (λ _. one_then _ _ (one_judged (table_conditions tables) input_fault.Tables) (λ _. one_then _ _ (one_exactly _) (λ played. one_then _ _ (one_level_in one_map wad played.header) (λ level. one_exactly _))))
+one_levelled one_map verdict wad tables demo =
+    one_then _ _ (one_judged (file_conditions wad) input_fault.Wad) (λ _. one_then _ _ (one_judged (table_conditions tables) input_fault.Tables) (λ _. one_then _ _ (one_demo verdict demo) (λ played. one_then _ _ (one_level_in one_map wad played.header) (λ level. one_exactly _))))
 
-one_worked : OneMap → (command : Command) (texts : List (List ℕ)) → IsOne (worked command texts)
-one_worked one_map command.Edit texts = one_edited (text_at texts 0) (text_at texts 1)
-one_worked one_map command.Level texts = one_levelled one_map (text_at texts 0) (text_at texts 1) (text_at texts 2)
+one_worked : OneMap → OneVerdict → (command : Command) (texts : List (List ℕ)) → IsOne (worked command texts)
+one_worked one_map verdict command.Edit texts = one_edited verdict (text_at texts 0) (text_at texts 1)
+one_worked one_map verdict command.Level texts = one_levelled one_map verdict (text_at texts 0) (text_at texts 1) (text_at texts 2)
 
-one_unless : OneMap → (command : Command) (texts : List (List ℕ)) (large : Option (Input × List ℕ)) → IsOne (worked_unless command texts large)
-one_unless one_map command texts None = one_worked one_map command texts
-one_unless one_map command texts (Some pair) = one_exactly _
+one_unless : OneMap → OneVerdict → (command : Command) (texts : List (List ℕ)) (large : Option (Input × List ℕ)) → IsOne (worked_unless command texts large)
+one_unless one_map verdict command texts None = one_worked one_map verdict command texts
+one_unless one_map verdict command texts (Some pair) = one_exactly _
 
 -- the words come to one outcome
-pub one_meaning : OneMap → (words : List (List ℕ)) (files : Files) (a b : Outcome) → Means words files a → Means words files b → a ≡ b
-one_meaning one_map words files a b (misused none is) (misused none' is') = is ∙ sym is'
-one_meaning one_map words files a b (misused none is) (unheld command asked missing is') = absurd cc
-one_meaning one_map words files a b (misused none is) (answered command texts answer asked held right is') = absurd cc
-one_meaning one_map words files a b (unheld command asked missing is) (misused none is') = absurd cc
-one_meaning one_map words files a b (unheld command asked missing is) (unheld command' asked' missing' is') = is ∙ sym is'
-one_meaning one_map words files a b (unheld command asked missing is) (answered command' texts answer asked' held right is') =
+pub one_meaning : OneMap → OneVerdict → (words : List (List ℕ)) (files : Files) (a b : Outcome) → Means words files a → Means words files b → a ≡ b
+one_meaning one_map verdict words files a b (misused none is) (misused none' is') = is ∙ sym is'
+one_meaning one_map verdict words files a b (misused none is) (unheld command asked missing is') = absurd cc
+one_meaning one_map verdict words files a b (misused none is) (answered command texts answer asked held right is') = absurd cc
+one_meaning one_map verdict words files a b (unheld command asked missing is) (misused none is') = absurd cc
+one_meaning one_map verdict words files a b (unheld command asked missing is) (unheld command' asked' missing' is') = is ∙ sym is'
+one_meaning one_map verdict words files a b (unheld command asked missing is) (answered command' texts answer asked' held right is') =
     let same : command ≡ command' = cc in absurd cc
-one_meaning one_map words files a b (answered command texts answer asked held right is) (misused none is') = absurd cc
-one_meaning one_map words files a b (answered command texts answer asked held right is) (unheld command' asked' missing is') =
+one_meaning one_map verdict words files a b (answered command texts answer asked held right is) (misused none is') = absurd cc
+one_meaning one_map verdict words files a b (answered command texts answer asked held right is) (unheld command' asked' missing is') =
     let same : command ≡ command' = cc in absurd cc
-one_meaning one_map words files a b (answered command texts answer asked held right is) (answered command' texts' answer' asked' held' right' is') =
+one_meaning one_map verdict words files a b (answered command texts answer asked held right is) (answered command' texts' answer' asked' held' right' is') =
     let same : command ≡ command' = cc in
     let same_texts : texts ≡ texts' = cc in
     let moved = subst (λ (command : Command). answer_of command texts answer) same right in
     let moved' = subst (λ (texts : List (List ℕ)). answer_of command' texts answer) same_texts moved in
-    let one = one_unless one_map command' texts' (too_large (inputs_of command') texts') answer answer' moved' right' in
+    let one = one_unless one_map verdict command' texts' (too_large (inputs_of command') texts') answer answer' moved' right' in
     cc

@@ -1,11 +1,12 @@
 -- How a run ends, and what stands then.
 use Rattle.std.specs.Prelude.{◌≡◌, ◌≢◌, ◌≤◌, ◌⊎◌, ℕ, List, [], Option, Some, None, IfSome}
 use Rattle.doom_edge.specs.Counts.{Rose}
+use Rattle.doom_edge.specs.Costs.{Rises}
 use Rattle.doom_edge.specs.Devices.{Files, bound, but_for, grown, GrewByPrefix}
 use Rattle.doom_edge.specs.declared.shelf.Shelf as shelf
 use Rattle.doom_edge.specs.declared.sink.Sink as sink
 use Rattle.dsda_cli.specs.Refusal.{line_of}
-use Rattle.dsda_cli.specs.Meaning.{Outcome, Misused, Unheld, Refusal, Reported, Means}
+use Rattle.dsda_cli.specs.Meaning.{Outcome, Misused, Unheld, Refusal, Reported, Means, IsMeaning}
 use Rattle.dsda_cli.specs.declared.status.Status.{Status}
 use Rattle.dsda_cli.specs.declared.status.Status.TheVariants as status
 
@@ -41,21 +42,21 @@ abbrev pub status_of : Outcome → Status
 status_of Misused = status.Usage
 status_of Unheld = status.ReadFault
 status_of (Refusal fault) = status.Refused fault
-status_of (Reported report put) = status.Done
+status_of (Reported report put cost) = status.Done
 
 -- the text that an outcome pushes
 abbrev pub told_of : Outcome → List ℕ
 told_of Misused = []
 told_of Unheld = []
 told_of (Refusal fault) = line_of fault
-told_of (Reported report put) = report
+told_of (Reported report put cost) = report
 
 -- the name and the bytes that an outcome puts
 abbrev pub put_of : Outcome → Option (List ℕ × List ℕ)
 put_of Misused = None
 put_of Unheld = None
 put_of (Refusal fault) = None
-put_of (Reported report put) = put
+put_of (Reported report put cost) = put
 
 -- the files after a put, if there is one
 abbrev pub with_put : Option (List ℕ × List ℕ) → Option Files → Option Files
@@ -91,9 +92,9 @@ pub record IsNoteFault (sure : Type 0) (put : Option (List ℕ × List ℕ)) (to
   pub no_put : put ≡ None → after.puts ≡ before.puts
   pub pushed : told ≢ []
 
--- There was no memory, before the put or after it, and nothing was pushed.
-pub record IsOutOfMemory (put : Option (List ℕ × List ℕ)) (before after : Seen) : Type 0 where
-  pub files : (after.files ≡ before.files) ⊎ (after.files ≡ with_put put before.files)
+-- There was no memory: before the put, or after it for the push of a text that isn't empty. Nothing was pushed.
+pub record IsOutOfMemory (put : Option (List ℕ × List ℕ)) (told : List ℕ) (before after : Seen) : Type 0 where
+  pub files : (after.files ≡ before.files) ⊎ ((told ≢ []) × (after.files ≡ with_put put before.files))
   pub text : after.text ≡ before.text
   pub no_put : put ≡ None → after.puts ≡ before.puts
 
@@ -103,7 +104,7 @@ abbrev pub EndsAs : Type 0 → Outcome → Seen → Seen → Status → Type 0
 EndsAs sure outcome before after status.ReadFault = ⊥
 EndsAs sure outcome before after status.WriteFault = IsPutFault sure (put_of outcome) before after
 EndsAs sure outcome before after status.NoteFault = IsNoteFault sure (put_of outcome) (told_of outcome) before after
-EndsAs sure outcome before after status.Memory = IsOutOfMemory (put_of outcome) before after
+EndsAs sure outcome before after status.Memory = IsOutOfMemory (put_of outcome) (told_of outcome) before after
 EndsAs sure outcome before after status.Usage =
     (status_of outcome ≡ status.Usage) × IsDelivered (put_of outcome) (told_of outcome) before after
 EndsAs sure outcome before after (status.Refused fault) =
@@ -140,16 +141,30 @@ pub record Stops (sure : Type 0) (words : List (List ℕ)) (before after : Seen)
   pub cause : StopsBy sure words before after ended
   pub untouched : IsUntouched before after
 
--- The run ends as the words come to over what the shelf holds; over some files, where the shelf doesn't tell.
-pub record Concludes (sure : Type 0) (words : List (List ℕ)) (before after : Seen) (ended : Status) : Type 0 where
+-- the devices as they are seen, and how many tic steps were counted
+pub record Moment : Type 0 where
+  pub devices : Seen
+  pub tics : ℕ
+
+abbrev pub moment : {S N : Type 0} → shelf.Ghosts S → sink.Ghosts N → S → N → ℕ → Moment
+moment S N shelf note tics = record { devices = seen S N shelf note; tics = tics }
+
+-- Where the work was done, the counter of tic steps rose by no less and no more than it costs.
+abbrev pub CostsAs : Outcome → ℕ → ℕ → Type 0
+CostsAs (Reported report put cost) before after = Rises cost before after
+CostsAs outcome before after = Unit {0}
+
+-- The run ends as the words come to over what the shelf holds; over some texts, where the shelf doesn't tell.
+pub record Concludes (sure : Type 0) (words : List (List ℕ)) (before after : Moment) (ended : Status) : Type 0 where
   pub outcome : Outcome
-  pub meant : IfSome before.files (λ files. Means words files outcome)
-  pub ends : EndsAs sure outcome before after ended
+  pub meant : IsMeaning words before.devices.files outcome
+  pub ends : EndsAs sure outcome before.devices after.devices ended
+  pub costs : CostsAs outcome before.tics after.tics
 
 -- how a run may end
-pub record Ends (sure : Type 0) (words : List (List ℕ)) (before after : Seen) (ended : Status) : Type 0 where
-  pub ending : Stops sure words before after ended ⊎ Concludes sure words before after ended
-  pub later : IsLater before after
+pub record Ends (sure : Type 0) (words : List (List ℕ)) (before after : Moment) (ended : Status) : Type 0 where
+  pub ending : Stops sure words before.devices after.devices ended ⊎ Concludes sure words before after ended
+  pub later : IsLater before.devices after.devices
 
 -- no count of faults rose
 pub record IsQuiet (before after : Seen) : Type 0 where

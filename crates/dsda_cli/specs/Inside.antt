@@ -1,7 +1,10 @@
 -- What the private functions promise to each other.
-use Rattle.std.specs.Prelude.{◌≡◌, ◌≢◌, ◌+◌, ℕ, List, [], Option, Some, None, Result, Ok, Err, take, option_map}
+use Rattle.std.specs.Prelude.{◌≡◌, ◌≢◌, ◌+◌, ℕ, List, [], Option, Some, None, Result, Ok, Err, OnOk, take, option_map}
 use Rattle.std.specs.FinMap as map
 use Rattle.doom_edge.specs.Counts.{Rose}
+use Rattle.doom_edge.specs.Costs.{Cost, free, Rises}
+use Rattle.doom_edge.specs.declared.shelf.Shelf as shelf
+use Rattle.doom_edge.specs.declared.sink.Sink as sink
 use Rattle.doom_edge.specs.Devices.{Files, but_for, grown, GrewByPrefix}
 use Rattle.doom_edge.specs.declared.shelf.TakeFault.{TakeFault}
 use Rattle.doom_edge.specs.declared.shelf.TakeFault.TheVariants as take_fault
@@ -24,7 +27,7 @@ use Rattle.build_edits.specs.declared.fault.EditFault.TheVariants as edit_fault
 use Rattle.dsda_cli.specs.Commands.{word_at}
 use Rattle.dsda_cli.specs.Refusal.{line_of}
 use Rattle.dsda_cli.specs.Judging.{Judgement}
-use Rattle.dsda_cli.specs.Meaning.{Work, outcome_under}
+use Rattle.dsda_cli.specs.Meaning.{Output, with_cost, outcome_under}
 use Rattle.dsda_cli.specs.Ending.{Seen, with_put, EndsAs, IsUntouched}
 use Rattle.dsda_cli.specs.declared.command.Input.{Input}
 use Rattle.dsda_cli.specs.declared.fault.InputFault.{InputFault}
@@ -78,6 +81,12 @@ IsRight view judgement (Err stop.Memory) = Unit {0}
 pub record Gives {A B : Type 0} (view : A → B) (given : Result A Stop) (judgement : Judgement B) : Type 0 where
   pub right : IsRight view judgement given
 
+-- What was returned is a right answer, at a cost by which the counter of tic steps rose, unless there was no memory.
+pub record Takes {A B : Type 0} (view : A → Cost → B) (given : Result A Stop) (judgement : Judgement B) (before after : ℕ) : Type 0 where
+  pub cost : Cost
+  pub right : IsRight (λ value. view value cost) judgement given
+  pub rises : OnOk given (Rises cost before after)
+
 -- a status of a take that was not made
 abbrev pub status_of_take : TakeFault → Status
 status_of_take take_fault.Failed = status.ReadFault
@@ -93,31 +102,46 @@ abbrev pub status_of_push : PushFault → Status
 status_of_push push_fault.Failed = status.NoteFault
 status_of_push push_fault.Memory = status.Memory
 
--- The file was put, if there is one, or why not; seen before and after are what the shelf holds and the count of its puts.
-abbrev pub Puts : Type 0 → Option (List ℕ × List ℕ) → Option Files → ℕ → Option Files → ℕ → Result (Unit {0}) PutFault → Type 0
-Puts sure put files puts after now (Ok _) = (after ≡ with_put put files) × (put ≡ None → now ≡ puts)
-Puts sure None files puts after now (Err fault) = ⊥
-Puts sure (Some put) files puts after now (Err put_fault.Failed) = (but_for put.0 after ≡ but_for put.0 files) × Rose puts now × (sure → ⊥)
-Puts sure (Some put) files puts after now (Err put_fault.Memory) = after ≡ files
+-- what a put may change of a shelf: what it holds, and how often a put failed
+pub record Held : Type 0 where
+  pub files : Option Files
+  pub puts : ℕ
 
--- The text was pushed, if there is one, or why not; seen before and after are what the sink got and the count of its pushes.
-abbrev pub Pushes : Type 0 → List ℕ → Option (List ℕ) → ℕ → Option (List ℕ) → ℕ → Result (Unit {0}) PushFault → Type 0
-Pushes sure told text pushes after now (Ok _) = (after ≡ grown told text) × (told ≡ [] → now ≡ pushes)
-Pushes sure told text pushes after now (Err push_fault.Failed) = GrewByPrefix told text after × Rose pushes now × (sure → ⊥) × (told ≢ [])
-Pushes sure told text pushes after now (Err push_fault.Memory) = after ≡ text
+abbrev pub held : {S : Type 0} → shelf.Ghosts S → S → Held
+held S shelf = record { files = S.holds shelf; puts = S.put_faults shelf }
 
--- The line of a refusal was pushed, or why not.
-abbrev pub TellsRefusal : Type 0 → InputFault → Option (List ℕ) → ℕ → Option (List ℕ) → ℕ → Status → Type 0
-TellsRefusal sure fault text pushes after now (status.Refused refused) =
-    (refused ≡ fault) × (after ≡ grown (line_of fault) text)
-TellsRefusal sure fault text pushes after now status.NoteFault =
-    GrewByPrefix (line_of fault) text after × Rose pushes now × (sure → ⊥)
-TellsRefusal sure fault text pushes after now status.Memory = after ≡ text
-TellsRefusal sure fault text pushes after now other = ⊥
+-- what a push may change of a sink: what it got, and how often a push failed
+pub record Got : Type 0 where
+  pub text : Option (List ℕ)
+  pub pushes : ℕ
+
+abbrev pub got : {N : Type 0} → sink.Ghosts N → N → Got
+got N note = record { text = N.got note; pushes = N.faults note }
+
+-- the file was put, if there is one, or why not
+abbrev pub Puts : Type 0 → Option (List ℕ × List ℕ) → Held → Held → Result (Unit {0}) PutFault → Type 0
+Puts sure put before after (Ok _) = (after.files ≡ with_put put before.files) × (put ≡ None → after.puts ≡ before.puts)
+Puts sure None before after (Err fault) = ⊥
+Puts sure (Some put) before after (Err put_fault.Failed) = (but_for put.0 after.files ≡ but_for put.0 before.files) × Rose before.puts after.puts × (sure → ⊥)
+Puts sure (Some put) before after (Err put_fault.Memory) = after.files ≡ before.files
+
+-- the text was pushed, if there is one, or why not
+abbrev pub Pushes : Type 0 → List ℕ → Got → Got → Result (Unit {0}) PushFault → Type 0
+Pushes sure told before after (Ok _) = (after.text ≡ grown told before.text) × (told ≡ [] → after.pushes ≡ before.pushes)
+Pushes sure told before after (Err push_fault.Failed) = GrewByPrefix told before.text after.text × Rose before.pushes after.pushes × (sure → ⊥) × (told ≢ [])
+Pushes sure told before after (Err push_fault.Memory) = (after.text ≡ before.text) × (told ≢ [])
+
+-- the line of a refusal was pushed, or why not
+abbrev pub TellsRefusal : Type 0 → InputFault → Got → Got → Status → Type 0
+TellsRefusal sure fault before after (status.Refused refused) = (refused ≡ fault) × (after.text ≡ grown (line_of fault) before.text)
+TellsRefusal sure fault before after status.NoteFault =
+    GrewByPrefix (line_of fault) before.text after.text × Rose before.pushes after.pushes × (sure → ⊥)
+TellsRefusal sure fault before after status.Memory = after.text ≡ before.text
+TellsRefusal sure fault before after other = ⊥
 
 -- How a run ends from what its inputs were judged to: as the outcome under this name says, or with nothing put and nothing
--- pushed, for want of memory.
-abbrev pub EndsBy : Type 0 → Option (List ℕ) → Result Work Stop → Seen → Seen → Status → Type 0
-EndsBy sure name (Ok work) before after ended = EndsAs sure (outcome_under name (Ok work)) before after ended
+-- pushed, for want of memory. What the work cost makes no difference to that.
+abbrev pub EndsBy : Type 0 → Option (List ℕ) → Result Output Stop → Seen → Seen → Status → Type 0
+EndsBy sure name (Ok output) before after ended = EndsAs sure (outcome_under name (Ok (with_cost output free))) before after ended
 EndsBy sure name (Err (stop.Refused fault)) before after ended = EndsAs sure (outcome_under name (Err fault)) before after ended
 EndsBy sure name (Err stop.Memory) before after ended = (ended ≡ status.Memory) × IsUntouched before after

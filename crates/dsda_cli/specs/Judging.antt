@@ -1,7 +1,7 @@
 -- Judgements: which answers of a piece of work are right. Most work has one right answer, which is a function's; a reader
 -- that judges conditions has the fault of the first that doesn't hold.
 use Rattle.std.specs.Prelude.{◌≡◌, List, Result, Ok, Err, Some, None}
-use Rattle.first_fault.specs.FirstFault.{Condition, FirstFault}
+use Rattle.fixed_angle.specs.FirstFault.{Condition, FirstFault}
 use Rattle.dsda_cli.specs.declared.fault.InputFault.{InputFault}
 
 -- which answers are right: values of one kind, and faults of the input

@@ -1,4 +1,4 @@
-pub use Rattle.first_fault.specs.FirstFault
+pub use Rattle.fixed_angle.specs.FirstFault
 pub use Rattle.doom_edge.specs.Counts
 pub use Rattle.doom_edge.specs.Devices
 pub use Rattle.doom_edge.specs.MemShelf
@@ -13,7 +13,6 @@ pub use Rattle.build_edits.specs.Parts
 pub use Rattle.build_edits.specs.Edits
 pub mod Refusal
 pub mod Commands
-pub mod Reading
 pub mod Judging
 pub mod LevelReport
 pub mod Meaning

@@ -1,10 +1,12 @@
 -- What a command line means: what its words come to over the files that they name. It knows nothing of the order in
 -- which files are taken, put and pushed.
-use Rattle.std.specs.Prelude.{◌≡◌, ℕ, false, map, fold, Result, Ok, Err, Option, Some, None, List, [], ◌∷◌, length, nat_lt, option_map, find, slice_get, unwrap_or}
+use Rattle.std.specs.Prelude.{◌≡◌, ℕ, Bool, false, map, fold, Result, Ok, Err, Option, Some, None, List, [], ◌∷◌, length, nat_lt, option_map, find, slice_get, unwrap_or}
 use Rattle.std.specs.List.{zip}
 use Rattle.std.specs.FinMap as map
 use Rattle.doom_edge.specs.Devices.{Files}
-use Rattle.lmp_codec.specs.Demo.{written}
+use Rattle.doom_edge.specs.Costs.{Cost, free}
+use Rattle.lmp_codec.specs.Header.{is_long}
+use Rattle.lmp_codec.specs.Demo.{written, IsVerdict}
 use Rattle.lmp_codec.specs.declared.input.Tic.{Tic}
 use Rattle.lmp_codec.specs.declared.whole.Demo.{Demo}
 use Rattle.lmp_codec.specs.declared.fault.DemoFault.{DemoFault}
@@ -23,7 +25,6 @@ use Rattle.build_edits.specs.Parts.{Parts, all_tics}
 use Rattle.build_edits.specs.Edits.{seek_outcome, put_outcome, insert_outcome, delete_outcome, cut_outcome, repeat_outcome}
 use Rattle.build_edits.specs.declared.fault.EditFault.{EditFault}
 use Rattle.dsda_cli.specs.Commands.{word_at, command_of, inputs_of, out_name}
-use Rattle.dsda_cli.specs.Reading.{demo_of}
 use Rattle.dsda_cli.specs.LevelReport.{episode_of, map_of, level_lines}
 use Rattle.dsda_cli.specs.Judging.{Judgement, exactly, judged, such_that, ◌>>=◌, ◌>>◌}
 use Rattle.dsda_cli.specs.declared.command.Command.{Command}
@@ -32,15 +33,27 @@ use Rattle.dsda_cli.specs.declared.command.Input.{Input}
 use Rattle.dsda_cli.specs.declared.fault.InputFault.{InputFault}
 use Rattle.dsda_cli.specs.declared.fault.InputFault.TheVariants as input_fault
 
--- What a command that is carried out gives: its report, and the demo that it puts, if it puts one.
-pub record Work : Type 0 where
+-- what a command reports, and the demo that it puts, if it puts one
+pub record Output : Type 0 where
   pub report : List ℕ
   pub demo : Option (List ℕ)
 
--- a text as a demo; its fault is the input's
-abbrev pub as_demo : Result Demo DemoFault → Result Demo InputFault
-as_demo (Ok demo) = Ok demo
-as_demo (Err fault) = Err (input_fault.Demo fault)
+-- What a command that is carried out gives: its output, at the cost of so many tic steps.
+pub record Work : Type 0 where
+  pub output : Output
+  pub cost : Cost
+
+abbrev pub with_cost : Output → Cost → Work
+with_cost output cost = record { output = output; cost = cost }
+
+-- the work of a command that plays no tic
+abbrev pub unplayed : List ℕ → Option (List ℕ) → Work
+unplayed report demo = with_cost (record { report = report; demo = demo }) free
+
+-- a text as a demo, or its first fault from the left, which is the input's: the verdict on the whole text
+abbrev pub as_demo : List ℕ → Judgement Demo
+as_demo text (Ok demo) = IsVerdict text (Ok demo)
+as_demo text (Err fault) = (first : DemoFault) × IsVerdict text (Err first) × (fault ≡ input_fault.Demo first)
 
 -- a script; its first fault is the input's
 abbrev pub as_script : Result (List Entry) (ℕ × Kind) → Result (List Entry) InputFault
@@ -70,19 +83,19 @@ next_edit (Err fault) entry = Err fault
 abbrev pub edits_of : List Entry → Parts → Result Parts InputFault
 edits_of entries parts = fold next_edit (Ok parts) entries
 
--- the tics that a script leaves of a demo's
-unfoldable pub scripted : List ℕ → List Tic → Judgement (List Tic)
-scripted script tics = do
-  entries ← exactly (as_script (script_of false script))
+-- the tics that a script leaves of a long or a short demo's
+unfoldable pub scripted : Bool → List ℕ → List Tic → Judgement (List Tic)
+scripted long script tics = do
+  entries ← exactly (as_script (script_of false long script))
   parts ← exactly (edits_of entries (record { before = []; after = tics }))
   exactly (Ok (all_tics parts))
 
 -- `edit`: the demo with the tics that the script leaves, and nothing to report
 unfoldable pub edited : List ℕ → List ℕ → Judgement Work
 edited demo script = do
-  before ← exactly (as_demo (demo_of demo))
-  tics ← scripted script before.tics
-  exactly (Ok (record { report = []; demo = Some (written before.header tics) }))
+  before ← as_demo demo
+  tics ← scripted (is_long before.header) script before.tics
+  exactly (Ok (unplayed [] (Some (written before.header tics))))
 
 -- the level of the map that a demo's header names
 unfoldable pub level_in : List ℕ → List ℕ → Judgement Lists
@@ -97,9 +110,9 @@ unfoldable pub levelled : List ℕ → List ℕ → List ℕ → Judgement Work
 levelled wad tables demo = do
   judged (file_conditions wad) input_fault.Wad
   judged (table_conditions tables) input_fault.Tables
-  played ← exactly (as_demo (demo_of demo))
+  played ← as_demo demo
   level ← level_in wad played.header
-  exactly (Ok (record { report = level_lines played.header level; demo = None }))
+  exactly (Ok (unplayed (level_lines played.header level) None))
 
 -- the text of the input at a place
 abbrev pub text_at : List (List ℕ) → ℕ → List ℕ
@@ -140,8 +153,8 @@ pub data Outcome : Type 0 where
   Unheld : Outcome
   -- the first fault of the inputs
   Refusal : InputFault → Outcome
-  -- the report, and the name and the bytes of the file that is put, if one is
-  Reported : List ℕ → Option (List ℕ × List ℕ) → Outcome
+  -- the report, the name and the bytes of the file that is put, if one is, and what the work costs in tic steps
+  Reported : List ℕ → Option (List ℕ × List ℕ) → Cost → Outcome
 
 -- the demo under its name, where there are both
 abbrev pub put_under : Option (List ℕ) → Option (List ℕ) → Option (List ℕ × List ℕ)
@@ -151,7 +164,7 @@ put_under name demo = None
 -- the work, with its demo under this name, or the refusal
 abbrev pub outcome_under : Option (List ℕ) → Result Work InputFault → Outcome
 outcome_under name (Err fault) = Refusal fault
-outcome_under name (Ok work) = Reported work.report (put_under name work.demo)
+outcome_under name (Ok work) = Reported work.output.report (put_under name work.output.demo) work.cost
 
 -- What the words come to over these files.
 pub data Means (words : List (List ℕ)) (files : Files) (outcome : Outcome) : Type 0 where
@@ -161,3 +174,15 @@ pub data Means (words : List (List ℕ)) (files : Files) (outcome : Outcome) : T
   unheld : (command : Command) → command_of words ≡ Some command → contents files words (inputs_of command) ≡ None → outcome ≡ Unheld → Means words files outcome
   -- all are, and their texts have a right answer
   answered : (command : Command) (texts : List (List ℕ)) (answer : Result Work InputFault) → command_of words ≡ Some command → contents files words (inputs_of command) ≡ Some texts → answer_of command texts answer → outcome ≡ outcome_under (out_name words command) answer → Means words files outcome
+
+-- What the words come to over some texts, one for each input, wherever they come from.
+pub data ComesTo (words : List (List ℕ)) (outcome : Outcome) : Type 0 where
+  -- the words ask for nothing
+  unasked : command_of words ≡ None → outcome ≡ Misused → ComesTo words outcome
+  -- the texts have a right answer
+  over : (command : Command) (texts : List (List ℕ)) (answer : Result Work InputFault) → command_of words ≡ Some command → answer_of command texts answer → outcome ≡ outcome_under (out_name words command) answer → ComesTo words outcome
+
+-- What the words come to over what a shelf holds; over some texts, where it doesn't tell.
+abbrev pub IsMeaning : List (List ℕ) → Option Files → Outcome → Type 0
+IsMeaning words (Some files) outcome = Means words files outcome
+IsMeaning words None outcome = ComesTo words outcome

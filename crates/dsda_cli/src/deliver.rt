@@ -1,7 +1,7 @@
 // What is put and pushed at the end of a run.
 ghost use Rattle.std.specs.Prelude.{◌≡◌, ◌≤◌, option_map};
 ghost use Rattle.dsda_cli.specs.Meaning.{put_under};
-ghost use Rattle.dsda_cli.specs.Inside.{Puts, Pushes, status_of_take, status_of_put, status_of_push};
+ghost use Rattle.dsda_cli.specs.Inside.{held, got, Puts, Pushes, status_of_take, status_of_put, status_of_push};
 
 use crate::status::Status;
 use doom_edge::{PushFault, PutFault, Shelf, Sink, TakeFault};
@@ -12,7 +12,7 @@ pub fn put_demo<S: Shelf>(
     name: Option<&str>,
     demo: &Option<Vec<u8>>,
 ) -> Result<(), PutFault>
-    ensures puts { Puts (S.sure shelf.old) (put_under (option_map (λ name. name.now) name.entry) (option_map (λ bytes. bytes.items) demo.now)) (S.holds shelf.old) (S.put_faults shelf.old) (S.holds shelf.new) (S.put_faults shelf.new) result }
+    ensures puts { Puts (S.sure shelf.old) (put_under (option_map (λ name. name.now) name.entry) (option_map (λ bytes. bytes.items) demo.now)) (held S.Shelf shelf.old) (held S.Shelf shelf.new) result }
     ensures later { S.put_faults shelf.old ≤ S.put_faults shelf.new }
     ensures takes { S.take_faults shelf.new ≡ S.take_faults shelf.old }
 {
@@ -24,7 +24,7 @@ pub fn put_demo<S: Shelf>(
 
 /// Pushes the text, if it isn't empty.
 pub fn push_text<N: Sink>(note: &mut N, text: &[u8]) -> Result<(), PushFault>
-    ensures pushes { Pushes (N.sure note.old) text.now (N.got note.old) (N.faults note.old) (N.got note.new) (N.faults note.new) result }
+    ensures pushes { Pushes (N.sure note.old) text.now (got N.Sink note.old) (got N.Sink note.new) result }
     ensures later { N.faults note.old ≤ N.faults note.new }
 {
     if text.is_empty() {

@@ -1,7 +1,8 @@
 // The commands of a script, carried out on the tics of a demo.
-ghost use Rattle.std.specs.Prelude.{◌≡◌, ◌≤◌, false, length};
+ghost use Rattle.std.specs.Prelude.{◌≡◌, ◌≤◌, Bool, false, length, IfOk};
+ghost use Rattle.lmp_codec.specs.Tics.{HoldsTurns};
 ghost use Rattle.lmp_codec.specs.Demo.{most_tics};
-ghost use Rattle.build_script.specs.Script.{script_of};
+ghost use Rattle.build_script.specs.Script.{script_of, HoldsTics};
 ghost use Rattle.build_edits.specs.Parts.{all_tics};
 ghost use Rattle.build_edits.specs.Edits.{MayEdit};
 ghost use Rattle.dsda_cli.specs.Judging.{exactly};
@@ -15,26 +16,31 @@ use build_script::{Command, Script, read_script};
 use lmp_codec::Tics;
 use std::alloc::Global;
 
-/// The tics that the script leaves of a demo's.
+/// The tics that the script leaves of a long or a short demo's.
 #[tactic(auto, unfolding(crate::specs::Meaning::scripted))]
-pub fn scripted(alloc: Global, script: &[u8], tics: Tics) -> Result<Tape, Stop>
-    requires { length tics ≤ most_tics }
-    ensures { Gives all_tics result (scripted script.now tics) }
+pub fn scripted(alloc: Global, script: &[u8], tics: Tics, long: bool) -> Result<Tape, Stop>
+    requires few { length tics ≤ most_tics }
+    requires turns { HoldsTurns long tics }
+    ensures tics { Gives all_tics result (scripted long script.now tics) }
+    ensures turns { IfOk result (λ left. HoldsTurns long (all_tics left)) }
 {
-    let commands = read_commands(alloc, script)?;
+    let commands = read_commands(alloc, script, long)?;
     edit_all(&commands, Tape::new(tics.into_list()))
 }
 
 /// The commands of the script.
-fn read_commands(alloc: Global, script: &[u8]) -> Result<Script, Stop>
-    ensures { Gives (λ entries. entries) result (exactly (as_script (script_of false script.now))) }
+fn read_commands(alloc: Global, script: &[u8], long: bool) -> Result<Script, Stop>
+    ensures commands { Gives (λ entries. entries) result (exactly (as_script (script_of false long script.now))) }
+    ensures held { IfOk result (HoldsTics long) }
 {
-    Ok(read_script(alloc, script, false)?)
+    Ok(read_script(alloc, script, false, long)?)
 }
 
 /// Carries the commands out, one after the other. The first that is refused ends them.
 fn edit_all(script: &Script, mut tape: Tape) -> Result<Tape, Stop>
-    ensures { Gives (λ parts. parts) result (exactly (edits_of script.now tape)) }
+    ensures parts { Gives (λ parts. parts) result (exactly (edits_of script.now tape)) }
+    ensures turns { (long : Bool) → HoldsTics long script.now → HoldsTurns long (all_tics tape)
+        → IfOk result (λ left. HoldsTurns long (all_tics left)) }
 {
     for place in 0..script.len() {
         match edit(script.command(place), &mut tape) {
@@ -47,7 +53,7 @@ fn edit_all(script: &Script, mut tape: Tape) -> Result<Tape, Stop>
 
 /// Carries one command out.
 fn edit(command: &Command, tape: &mut Tape) -> Result<(), EditFault>
-    ensures { MayEdit result tape.old tape.new (edited_by command.now tape.old) }
+    ensures edits { MayEdit result tape.old tape.new (edited_by command.now tape.old) }
 {
     match command {
         Command::Seek(place) => tape.seek(*place),

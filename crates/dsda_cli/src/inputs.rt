@@ -1,11 +1,12 @@
 // The inputs, each read by itself. A fault that one has ends the work.
 ghost use Rattle.std.specs.Prelude.{◌≡◌, ◌≤◌, length, IfOk};
+ghost use Rattle.lmp_codec.specs.Header.{is_long};
+ghost use Rattle.lmp_codec.specs.Tics.{HoldsTurns};
 ghost use Rattle.lmp_codec.specs.Demo.{most_tics};
 ghost use Rattle.wad_lumps.specs.Directory.{file_conditions};
 ghost use Rattle.fixed_angle.specs.TableFile.{tables_of, table_conditions};
 ghost use Rattle.dsda_cli.specs.declared.fault.InputFault.TheVariants as input_fault;
-ghost use Rattle.dsda_cli.specs.Reading.{demo_of};
-ghost use Rattle.dsda_cli.specs.Judging.{exactly, judged};
+ghost use Rattle.dsda_cli.specs.Judging.{judged};
 ghost use Rattle.dsda_cli.specs.Meaning.{as_demo};
 ghost use Rattle.dsda_cli.specs.Inside.{Gives};
 
@@ -33,8 +34,9 @@ pub fn tables(alloc: Global, bytes: &[u8]) -> Result<PlayTables, Stop>
 
 /// The demo that the text is.
 pub fn demo(alloc: Global, text: &[u8]) -> Result<Demo, Stop>
-    ensures read { Gives (λ demo. demo) result (exactly (as_demo (demo_of text.now))) }
+    ensures read { Gives (λ demo. demo) result (as_demo text.now) }
     ensures within { IfOk result (λ demo. length demo.tics ≤ most_tics) }
+    ensures turns { IfOk result (λ demo. HoldsTurns (is_long demo.header) demo.tics) }
 {
     Ok(read_demo(alloc, text)?)
 }

@@ -1,11 +1,7 @@
 //! What follows from the definitions and the contracts, for a reader: each law is a function whose clause is the law.
-ghost use Rattle.std.specs.Prelude.{◌≡◌, ℕ, List, Result, Some};
+ghost use Rattle.std.specs.Prelude.{◌≡◌, ℕ, List, Some};
 ghost use Rattle.doom_edge.specs.Devices.{Files};
 ghost use Rattle.doom_edge.specs.MemShelf.{files_of};
-ghost use Rattle.lmp_codec.specs.Demo.{IsVerdict};
-ghost use Rattle.lmp_codec.specs.declared.whole.Demo.{Demo};
-ghost use Rattle.lmp_codec.specs.declared.fault.DemoFault.{DemoFault};
-ghost use Rattle.dsda_cli.specs.Reading.{demo_of};
 ghost use Rattle.dsda_cli.specs.Meaning.{Outcome, Means};
 ghost use Rattle.dsda_cli.specs.Ending.{Answers};
 
@@ -13,19 +9,16 @@ use crate::program::run;
 use crate::status::Status;
 use crate::words::Words;
 use doom_edge::{Gate, MemShelf, Steps, SureSink};
+use lmp_codec::laws::one_verdict;
 use std::alloc::Global;
 use wad_lumps::one_answer;
-
-/// What the meaning of a command reads a demo's text as is the verdict on the text.
-pub fn one_reading()
-    ensures { (text : List ℕ) (verdict : Result Demo DemoFault) → IsVerdict text verdict → demo_of text ≡ verdict }
-{}
 
 /// A command line comes to one outcome over the files that it names.
 pub fn one_meaning()
     ensures { (words : List (List ℕ)) (files : Files) (a b : Outcome) → Means words files a → Means words files b → a ≡ b }
 {
     one_answer();
+    one_verdict();
 }
 
 /// Over a new shelf in memory, no call of which is to fail, and a sink that never fails, a run ends as the words and the

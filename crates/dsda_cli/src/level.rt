@@ -1,13 +1,14 @@
 // What `level` reports.
 ghost use Rattle.std.specs.Prelude.{◌≡◌, ◌++◌, IfOk, OnOk, string_bytes};
 ghost use Rattle.std.specs.Fmt.{decimal};
+ghost use Rattle.doom_edge.specs.Costs.{free};
 ghost use Rattle.wad_lumps.specs.Map.{AreSpans, IsMap, map_conditions};
 ghost use Rattle.map_load.specs.Load.{level_conditions};
 ghost use Rattle.map_load.specs.Spelled.{spelled};
 ghost use Rattle.dsda_cli.specs.declared.fault.InputFault.TheVariants as input_fault;
 ghost use Rattle.dsda_cli.specs.LevelReport.{episode_of, map_of, level_name, counts_text, level_lines};
 ghost use Rattle.dsda_cli.specs.Judging.{judged};
-ghost use Rattle.dsda_cli.specs.Meaning.{level_in, levelled};
+ghost use Rattle.dsda_cli.specs.Meaning.{with_cost, level_in, levelled};
 ghost use Rattle.dsda_cli.specs.Inside.{Gives};
 
 use crate::inputs;
@@ -22,7 +23,7 @@ use wad_lumps::{MapSpans, Wad};
 /// What the level that the demo plays is made of. The tables serve its play, and are judged with it.
 #[tactic(auto, unfolding(crate::specs::Meaning::levelled))]
 pub fn level(alloc: Global, wad: Vec<u8>, tables: &[u8], demo: &[u8]) -> Result<Product, Stop>
-    ensures { Gives (λ work. work) result (levelled wad.items tables.now demo.now) }
+    ensures { Gives (λ output. with_cost output free) result (levelled wad.items tables.now demo.now) }
 {
     let wad = inputs::wad(wad)?;
     let _tables = inputs::tables(alloc, tables)?;

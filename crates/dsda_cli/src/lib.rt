@@ -26,6 +26,3 @@ pub use program::run;
 pub use status::Status;
 pub use text::refusal_text;
 pub use words::Words;
-
-#[cfg(test)]
-mod tests;

@@ -19,9 +19,9 @@ pub struct Product {
 
 impl Model for Product {
     ghost use Rattle.std.specs.Prelude.{option_map};
-    ghost use Rattle.dsda_cli.specs.Meaning.{Work};
+    ghost use Rattle.dsda_cli.specs.Meaning.{Output};
 
-    ghost Value = { Work };
+    ghost Value = { Output };
 
     ghost view = { λ product. record { report = product.report.items; demo = option_map (λ bytes. bytes.items) product.demo } };
 }

@@ -1,10 +1,11 @@
 // The top call: a command line, carried out over a shelf and a sink.
 ghost use Rattle.std.specs.Prelude.{◌≡◌, ◌≤◌, ◌↔◌, Some, None, option_map, IfOk, IfSome};
+ghost use Rattle.doom_edge.specs.Costs.{free};
 ghost use Rattle.dsda_cli.specs.Refusal.{line_of};
 ghost use Rattle.dsda_cli.specs.Commands.{command_of};
 ghost use Rattle.dsda_cli.specs.Meaning.{Reported, put_under};
-ghost use Rattle.dsda_cli.specs.Ending.{seen, EndsAs, Ends, IsLater, IsQuiet, Answers};
-ghost use Rattle.dsda_cli.specs.Inside.{EndsBy, TellsRefusal};
+ghost use Rattle.dsda_cli.specs.Ending.{seen, moment, EndsAs, Ends, IsLater, IsQuiet, Answers};
+ghost use Rattle.dsda_cli.specs.Inside.{got, EndsBy, TellsRefusal};
 
 use crate::command::{Command, command_of, inputs_of, out_name};
 use crate::deliver::{push_text, put_demo, status_of_push, status_of_put, status_of_take};
@@ -34,9 +35,9 @@ pub fn run<S: Shelf, N: Sink, G: Gate + Sync>(
     ensures unused_shelf { result ≡ Status.Usage → shelf.new ≡ shelf.old }
     ensures unused_note { result ≡ Status.Usage → note.new ≡ note.old }
 
-    // Each status comes by its cause, and what stands after it.
+    // Each status comes by its cause, and what stands after it; work that was done took the tic steps that it costs.
     ensures ends { Ends (S.sure shelf.old × N.sure note.old) words.now
-        (seen S.Shelf N.Sink shelf.old note.old) (seen S.Shelf N.Sink shelf.new note.new) result }
+        (moment S.Shelf N.Sink shelf.old note.old steps.old.tics) (moment S.Shelf N.Sink shelf.new note.new steps.new.tics) result }
 
     // Where no count of faults rises, the status is the one that the words and the files come to, or there was no memory.
     ensures complete { IsQuiet (seen S.Shelf N.Sink shelf.old note.old) (seen S.Shelf N.Sink shelf.new note.new)
@@ -45,11 +46,11 @@ pub fn run<S: Shelf, N: Sink, G: Gate + Sync>(
     // So it is where no device fails but for a name that isn't held.
     ensures certain { S.sure shelf.old → N.sure note.old → Answers words.now (S.holds shelf.old) result }
 
-    // No step is counted.
+    // No step is counted, since no command plays a tic yet.
     ensures steps { steps.new ≡ steps.old }
 {
     match command_of(words) {
-        Some(command) => carry_out(alloc, command, words, shelf, note),
+        Some(command) => carry_out(alloc, command, words, shelf, note, steps),
         None => Status::Usage,
     }
 }
@@ -61,17 +62,19 @@ fn carry_out<S: Shelf, N: Sink>(
     words: &Words,
     shelf: &mut S,
     note: &mut N,
+    steps: &mut Steps,
 ) -> Status
     requires { command_of words.now ≡ Some command }
     ensures ends { Ends (S.sure shelf.old × N.sure note.old) words.now
-        (seen S.Shelf N.Sink shelf.old note.old) (seen S.Shelf N.Sink shelf.new note.new) result }
+        (moment S.Shelf N.Sink shelf.old note.old steps.old.tics) (moment S.Shelf N.Sink shelf.new note.new steps.new.tics) result }
+    ensures steps { steps.new ≡ steps.old }
     ensures used { result ≡ Status.Usage → ⊥ }
 {
     let taken = take_all(alloc, inputs_of(command), words, shelf);
     match taken {
         Ok(texts) => conclude(
             alloc,
-            judge(alloc, command, texts),
+            judge(alloc, command, texts, steps),
             out_name(words, command),
             shelf,
             note,
@@ -110,7 +113,7 @@ fn deliver<S: Shelf, N: Sink>(
     note: &mut N,
 ) -> Status
     ensures ends { EndsAs (S.sure shelf.old × N.sure note.old)
-        (Reported product.now.report (put_under (option_map (λ name. name.now) name.entry) product.now.demo))
+        (Reported product.now.report (put_under (option_map (λ name. name.now) name.entry) product.now.demo) free)
         (seen S.Shelf N.Sink shelf.old note.old) (seen S.Shelf N.Sink shelf.new note.new) result }
     ensures later { IsLater (seen S.Shelf N.Sink shelf.old note.old) (seen S.Shelf N.Sink shelf.new note.new) }
 {
@@ -125,7 +128,7 @@ fn deliver<S: Shelf, N: Sink>(
 
 /// Pushes the line of the refusal.
 fn refuse<N: Sink>(alloc: Global, fault: InputFault, note: &mut N) -> Status
-    ensures tells { TellsRefusal (N.sure note.old) fault (N.got note.old) (N.faults note.old) (N.got note.new) (N.faults note.new) result }
+    ensures tells { TellsRefusal (N.sure note.old) fault (got N.Sink note.old) (got N.Sink note.new) result }
     ensures later { N.faults note.old ≤ N.faults note.new }
 {
     let Ok(line) = refusal_line(alloc, &fault) else {

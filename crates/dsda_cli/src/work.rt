@@ -1,7 +1,8 @@
 // What a command makes of the texts of its inputs.
 ghost use Rattle.std.specs.Prelude.{◌≡◌, ◌≢◌, ℕ, map, option_map};
-ghost use Rattle.dsda_cli.specs.Meaning.{edited, worked, answer_of, too_large, text_at};
-ghost use Rattle.dsda_cli.specs.Inside.{Gives};
+ghost use Rattle.doom_edge.specs.Costs.{free};
+ghost use Rattle.dsda_cli.specs.Meaning.{with_cost, edited, worked, answer_of, too_large, text_at};
+ghost use Rattle.dsda_cli.specs.Inside.{Gives, Takes};
 
 use crate::command::{Command, Input, inputs_of};
 use crate::edits::scripted;
@@ -9,13 +10,28 @@ use crate::fault::InputFault;
 use crate::inputs;
 use crate::level::level;
 use crate::product::{Product, Stop};
+use doom_edge::Steps;
 use lmp_codec::{Demo, write_demo};
 use std::alloc::Global;
 use std::mem;
 
-/// What the command makes of these texts, or their first fault. A text above its limit is refused before any is read.
-pub fn judge(alloc: Global, command: Command, texts: Vec<Vec<u8>>) -> Result<Product, Stop>
-    ensures { Gives (λ work. work) result (answer_of command (map (λ text. text.items) texts.items)) }
+/// What the command makes of these texts, or their first fault. Neither of today's commands plays a tic.
+pub fn judge(
+    alloc: Global,
+    command: Command,
+    texts: Vec<Vec<u8>>,
+    steps: &mut Steps,
+) -> Result<Product, Stop>
+    ensures takes { Takes with_cost result (answer_of command (map (λ text. text.items) texts.items)) steps.old.tics steps.new.tics }
+    ensures steps { steps.new ≡ steps.old }
+{
+    let _ = steps;
+    answer(alloc, command, texts)
+}
+
+/// What the command makes of these texts without playing a tic. A text above its limit is refused before any is read.
+fn answer(alloc: Global, command: Command, texts: Vec<Vec<u8>>) -> Result<Product, Stop>
+    ensures { Gives (λ output. with_cost output free) result (answer_of command (map (λ text. text.items) texts.items)) }
 {
     if let Some(word) = too_large(inputs_of(command), &texts) {
         return Err(Stop::Refused(InputFault::Large(word)));
@@ -58,7 +74,7 @@ fn take_text(alloc: Global, texts: &mut Vec<Vec<u8>>, place: usize) -> Vec<u8>
 
 /// What the command makes of texts within their limits.
 fn work(alloc: Global, command: Command, mut texts: Vec<Vec<u8>>) -> Result<Product, Stop>
-    ensures { Gives (λ work. work) result (worked command (map (λ text. text.items) texts.items)) }
+    ensures { Gives (λ output. with_cost output free) result (worked command (map (λ text. text.items) texts.items)) }
 {
     match command {
         Command::Edit => edit(alloc, text_at(&texts, 0), text_at(&texts, 1)),
@@ -72,11 +88,12 @@ fn work(alloc: Global, command: Command, mut texts: Vec<Vec<u8>>) -> Result<Prod
 /// The demo with the tics that the script leaves.
 #[tactic(auto, unfolding(crate::specs::Meaning::edited))]
 fn edit(alloc: Global, demo: &[u8], script: &[u8]) -> Result<Product, Stop>
-    ensures { Gives (λ work. work) result (edited demo.now script.now) }
+    ensures { Gives (λ output. with_cost output free) result (edited demo.now script.now) }
 {
     let Demo { header, tics } = inputs::demo(alloc, demo)?;
-    let tape = scripted(alloc, script, tics)?;
-    let bytes = write_demo(alloc, &header, tape.tics())?;
+    let tape = scripted(alloc, script, tics, header.long())?;
+    let tics = tape.into_tics()?;
+    let bytes = write_demo(alloc, &header, &tics)?;
     Ok(Product {
         report: Vec::new(alloc),
         demo: Some(bytes),

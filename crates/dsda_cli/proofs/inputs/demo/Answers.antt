@@ -1,7 +1,5 @@
-use Rattle.std.proofs.Common.{ap, Ok}
 use Rattle.std.proofs.lemmas.Result.{err_from_is_err_and}
-use Rattle.dsda_cli.specs.Meaning.{as_demo}
-use Rattle.dsda_cli.proofs.ReadingLemmas.{demo_of-verdict, read_stops}
+use Rattle.dsda_cli.proofs.DemoLemmas.{read_stops}
 use Rattle.dsda_cli.proofs.inputs.demo.Goals as goal
 
 pub returns-in_err-read_demo-clause-read : goal.returns-in_err-read_demo-clause-read
@@ -10,4 +8,4 @@ returns-in_err-read_demo-clause-read c =
     rw made.1 (read_stops c.args.text.now c.in_err-read_demo.field-0.0 made.0 made.2 c.in_err-read_demo.ensures.fault)
 
 pub returns-clause-read : goal.returns-clause-read
-returns-clause-read c = record { right = ap as_demo (demo_of-verdict c.args.text.now (Ok c.in_ok-read_demo.field-0) c.in_ok-read_demo.ensures.read) }
+returns-clause-read c = record { right = c.in_ok-read_demo.ensures.read }

@@ -15,11 +15,10 @@ returns-in-Ok-clause-ends g c =
     let took : OnlyTook before mid = record { files = taken.holds; takes = taken.takes; puts = taken.puts; text = refl; pushes = refl } in
     let texts = map (λ text. text.items) c.in-Ok.texts.items in
     let told = told_lists (g.S.Shelf.holds c.args.shelf.now) c.args.words.now (inputs_of c.args.command) _ c.in-Ok.texts.items c.inputs_of.ensures c.in-Ok.ensures.told in
-    let judged = c.judge.ensures in
     let ended = rw c.out_name.ensures at c.conclude.ensures.ends in
     let later = c.conclude.ensures.later in
     record {
-      ending = judged_ends (λ sure. (taken.stays_sure sure.0, sure.1)) c.args.words.now c.args.command texts c.judge.result before mid after c.conclude.result c.requires told took judged ended;
+      ending = judged_ends (λ sure. (taken.stays_sure sure.0, sure.1)) c.args.words.now c.args.command texts c.judge.result before mid after c.args.steps.now.tics c.judge.new.steps.tics c.conclude.result c.requires told took c.judge.ensures.takes ended;
       later = record { takes = omega (arith, taken.takes, later.takes); puts = omega (arith, taken.puts, later.puts); pushes = omega (arith, later.pushes) };
     }
 

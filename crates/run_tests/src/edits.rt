@@ -1,7 +1,5 @@
-mod level;
-
-use crate::{Status, Words, run};
-use doom_edge::{MemShelf, MemSink, NoGate, Steps};
+//! `edit` over files in memory.
+use crate::over::{ALL, Failing, Left, NONE, ran_over};
 use sample_inputs::HEADER;
 use std::alloc::{AllocError, Global};
 use std::process::Abort;
@@ -10,72 +8,17 @@ use std::test::Fail;
 /// The words of an edit.
 const EDIT: [&str; 4] = ["edit", "in.lmp", "script", "out.lmp"];
 
-/// The numbers of the calls that fail.
-#[derive(Clone, Copy)]
-struct Failing {
-    takes: &'static [u64],
-    puts: &'static [u64],
-    pushes: &'static [u64],
-}
-
-const NONE: Failing = Failing {
-    takes: &[],
-    puts: &[],
-    pushes: &[],
-};
-
-const ALL: Failing = Failing {
-    takes: &[0],
-    puts: &[0],
-    pushes: &[0],
-};
-
 /// A demo without tics.
 const EMPTY: &[u8] = b"\x6d\x02\x01\x01\x00\x00\x00\x01\x00\x01\x00\x00\x00\x80";
 
-/// What a run left.
-#[derive(Drop)]
-struct Left {
-    status: Status,
-    shelf: MemShelf,
-    note: MemSink,
-}
+/// The header of a demo of version 111.
+const LONG_HEADER: [u8; 13] = [111, 2, 1, 1, 0, 0, 0, 1, 0, 1, 0, 0, 0];
 
 /// The header and these bytes behind it.
-fn with_header(alloc: Global, behind: &[u8]) -> Result<Vec<u8>, AllocError> {
-    let mut bytes = HEADER.to_vec(alloc)?;
+fn with_header(alloc: Global, header: &[u8], behind: &[u8]) -> Result<Vec<u8>, AllocError> {
+    let mut bytes = header.to_vec(alloc)?;
     bytes.extend_from_slice(behind)?;
     Ok(bytes)
-}
-
-/// Runs the words over files in memory, each given by its name and its bytes.
-fn ran_over(
-    alloc: Global,
-    words: &[&str],
-    files: &[(&str, &[u8])],
-    failing: Failing,
-) -> Result<Left, Fail> {
-    let mut list = Words::new(alloc);
-    for word in words {
-        list.push(word)?;
-    }
-    let mut held = Vec::new(alloc);
-    for (name, bytes) in files {
-        held.push((String::from_str(alloc, name)?, bytes.to_vec(alloc)?))?;
-    }
-    let mut shelf = MemShelf::new(
-        held,
-        failing.takes.to_vec(alloc)?,
-        failing.puts.to_vec(alloc)?,
-    );
-    let mut note = MemSink::new(alloc, failing.pushes.to_vec(alloc)?);
-    let mut steps = Steps::new();
-    let status = run(alloc, &list, &mut shelf, &mut note, &NoGate, &mut steps);
-    Ok(Left {
-        status,
-        shelf,
-        note,
-    })
 }
 
 /// Runs the words over a demo and a script.
@@ -97,11 +40,16 @@ fn ran(
 /// A table of scripts: what stands behind the demo's header, the script, and what stands behind the new demo's header.
 type Edits<'a> = &'a [(&'a [u8], &'a [u8], &'a [u8])];
 
-/// Asserts that each script leaves these tics of these, and that there is nothing to report.
-fn expect_edits(rt: &impl Abort, alloc: Global, rows: Edits<'_>) -> Result<(), Fail> {
+/// Asserts that each script leaves these tics of these behind this header, and that there is nothing to report.
+fn expect_edits(
+    rt: &impl Abort,
+    alloc: Global,
+    header: &[u8],
+    rows: Edits<'_>,
+) -> Result<(), Fail> {
     for (behind, script, left_behind) in rows {
-        let demo = with_header(alloc, behind)?;
-        let out = with_header(alloc, left_behind)?;
+        let demo = with_header(alloc, header, behind)?;
+        let out = with_header(alloc, header, left_behind)?;
         let left = ran(alloc, &EDIT, &demo, script, NONE)?;
         assert_eq!(rt; left.status.number(), 0, "{script:?}");
         assert_eq!(rt; left.note.bytes(), b"".as_slice(), "{script:?}");
@@ -158,6 +106,7 @@ fn a_demo_is_put_as_its_script_leaves_it(rt: HostRuntime) -> Result<(), Fail> {
     expect_edits(
         &rt,
         rt.alloc(),
+        &HEADER,
         &[
             (b"\x80", b"", b"\x80"),
             (b"\x80", b"# nothing\n\n \t\r\n", b"\x80"),
@@ -191,6 +140,43 @@ fn a_demo_is_put_as_its_script_leaves_it(rt: HostRuntime) -> Result<(), Fail> {
                 b"seek 1\nput 127 127 255 0",
                 b"\x07\x07\x07\x07\x7f\x7f\xff\x00\x80",
             ),
+        ],
+    )
+}
+
+#[test]
+fn a_long_demo_is_put_with_its_turns(rt: HostRuntime) -> Result<(), Fail> {
+    expect_edits(
+        &rt,
+        rt.alloc(),
+        &LONG_HEADER,
+        &[
+            (b"\x80", b"", b"\x80"),
+            (b"\x80", b"put 0 0 1 0", b"\x00\x00\x01\x00\x00\x80"),
+            (b"\x80", b"put 0 0 -1 0", b"\x00\x00\xff\xff\x00\x80"),
+            (
+                b"\x32\x00\x34\x12\x02\x80PWADER",
+                b"seek 1\nrepeat 1\ninsert 0 0 65535 0",
+                b"\x32\x00\x34\x12\x02\x32\x00\x34\x12\x02\x00\x00\xff\xff\x00\x80",
+            ),
+        ],
+    )
+}
+
+#[test]
+fn a_faulty_long_demo_or_its_script_is_refused(rt: HostRuntime) -> Result<(), Fail> {
+    let alloc = rt.alloc();
+    let cut = with_header(alloc, &LONG_HEADER, &[0x32, 0, 0, 0])?;
+    let empty = with_header(alloc, &LONG_HEADER, &[0x80])?;
+    expect_refusals(
+        &rt,
+        alloc,
+        &[
+            (&cut, b"", b"refused: demo cut at 17\n"),
+            (&empty, b"put 0 0 65536 0", b"refused: line 1: range\n"),
+            (&empty, b"put 0 0 -32769 0", b"refused: line 1: range\n"),
+            (EMPTY, b"put 0 0 300 0", b"refused: line 1: range\n"),
+            (b"\x70", b"", b"refused: demo version 112\n"),
         ],
     )
 }
@@ -363,10 +349,10 @@ fn a_failing_device_ends_the_run(rt: HostRuntime) -> Result<(), Fail> {
 #[test]
 fn an_input_may_be_the_output(rt: HostRuntime) -> Result<(), Fail> {
     let alloc = rt.alloc();
-    let demo = with_header(alloc, b"\x01\x02\x03\x04\x80rest")?;
+    let demo = with_header(alloc, &HEADER, b"\x01\x02\x03\x04\x80rest")?;
     let words = ["edit", "in.lmp", "script", "in.lmp"];
     let left = ran(alloc, &words, &demo, b"insert 5 6 7 8", NONE)?;
-    let out = with_header(alloc, b"\x05\x06\x07\x08\x01\x02\x03\x04\x80")?;
+    let out = with_header(alloc, &HEADER, b"\x05\x06\x07\x08\x01\x02\x03\x04\x80")?;
     assert_eq!(rt; left.status.number(), 0);
     assert!(rt; left.shelf.file("in.lmp") == Some(out.as_slice()));
     Ok(())

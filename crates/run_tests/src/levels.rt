@@ -1,9 +1,5 @@
 //! `level` over files in memory.
-use super::{Failing, Left, NONE, ran_over};
-use crate::fault::InputFault;
-use crate::level::level;
-use crate::product::Stop;
-use fixed_angle::TabFault;
+use crate::over::{Failing, Left, NONE, ran_over};
 use sample_inputs::{
     PlanKind, PlanNode, demo, demo_of_zeros, header_at, play_tables, play_tables_of, single_room,
     two_sectors, wad,
@@ -268,26 +264,19 @@ fn expect_cut_maps(rt: &impl Abort, alloc: Global, maps: &[u8]) -> Result<(), Fa
     Ok(())
 }
 
-/// The fault of a table file.
-fn tables_fault(stop: &Stop) -> Option<TabFault> {
-    match stop {
-        Stop::Refused(InputFault::Tables(refused)) => Some(*refused.fault()),
-        _ => None,
-    }
-}
-
-/// Asserts that the tables are refused wherever they are cut. They are lent, and not held in memory once for each length.
+/// Asserts that the tables are refused where they are cut: in their head, behind it, and before the last byte.
 fn expect_cut_tables(rt: &impl Abort, alloc: Global, tables: &[u8]) -> Result<(), Fail> {
     let maps = room(alloc)?;
     let empty = demo_of_zeros(alloc, 0)?;
-    for len in 0..tables.len() {
-        let judged = level(alloc, maps.to_vec(alloc)?, &tables[..len], &empty);
-        let fault = if len < 8 {
-            TabFault::TabHead
-        } else {
-            TabFault::TabLength
-        };
-        assert!(rt; judged.err().as_ref().and_then(tables_fault) == Some(fault));
+    for (len, line) in [
+        (0, b"refused: tables head\n".as_slice()),
+        (7, b"refused: tables head\n".as_slice()),
+        (8, b"refused: tables length\n".as_slice()),
+        (TABLES_LEN - 1, b"refused: tables length\n".as_slice()),
+    ] {
+        let cut = tables.get(..len).unwrap_or(&[]);
+        let left = reported(alloc, &maps, cut, &empty, NONE)?;
+        assert_eq!(rt; left.note.bytes(), line, "{len}");
     }
     Ok(())
 }

@@ -1,0 +1,10 @@
+//! Tests of runs of the program over files in memory: each command, each refusal, and devices that fail. No other crate
+//! stands on this one.
+#![tactic(auto)]
+
+#[cfg(test)]
+mod edits;
+#[cfg(test)]
+mod levels;
+#[cfg(test)]
+mod over;
