@@ -1,6 +1,10 @@
-//! The program: its words, the real files and the real output, handed to the top call.
+//! The program: its words, the real files and the real output, handed to the top call. What went wrong is said on
+//! standard error.
 #![tactic(auto)]
 
+mod tell;
+
+use crate::tell::{USAGE, VERSION, explain, print};
 use doom_edge::{FileShelf, NoGate, OutSink, Steps};
 use dsda_cli::{Status, Words, run};
 use std::process::ExitCode;
@@ -24,23 +28,60 @@ fn status_of(error: io::Error) -> Status {
     }
 }
 
-/// The status of the program's words over the real files and the real output.
-fn status(rt: &HostRuntime) -> Status {
-    let words = match words_of(rt) {
-        Ok(words) => words,
-        Err(status) => return status,
-    };
+/// The text that the words ask for in place of a command.
+fn asked_text(words: &Words) -> Option<&'static str> {
+    if words.len() != 1 {
+        return None;
+    }
+    match words.word(0) {
+        "--help" | "-h" => Some(USAGE),
+        "--version" => Some(VERSION),
+        _ => None,
+    }
+}
+
+/// Prints a text that was asked for.
+fn answer(rt: &HostRuntime, text: &str) -> Status {
+    match print(rt, text) {
+        Ok(()) => Status::Done,
+        Err(_) => Status::NoteFault,
+    }
+}
+
+/// Carries out the words over the real files and the real output.
+fn carry_out(rt: &HostRuntime, words: &Words) -> Status {
     let mut shelf = FileShelf::new(rt);
     let mut note = OutSink::new(rt);
     let mut steps = Steps::new();
-    run(
+    let status = run(
         rt.alloc(),
-        &words,
+        words,
         &mut shelf,
         &mut note,
         &NoGate,
         &mut steps,
-    )
+    );
+    let unwritten = note.failure(rt.alloc(), "the report");
+    let failure = match status {
+        Status::NoteFault => unwritten.as_str(),
+        _ => shelf.failure(),
+    };
+    explain(rt, &status, failure, shelf.has_put());
+    status
+}
+
+/// The status of the program's words.
+fn status(rt: &HostRuntime) -> Status {
+    match words_of(rt) {
+        Ok(words) => match asked_text(&words) {
+            Some(text) => answer(rt, text),
+            None => carry_out(rt, &words),
+        },
+        Err(status) => {
+            explain(rt, &status, "", false);
+            status
+        }
+    }
 }
 
 fn main(rt: HostRuntime) -> ExitCode {

@@ -1,0 +1,56 @@
+// What the program says on standard error and to whom asks for its usage. No clause rests on it.
+use doom_edge::{OutSink, PushFault, Sink};
+use dsda_cli::Status;
+
+/// How the command lines look.
+pub const USAGE: &str = "usage: dsda_build COMMAND
+  edit DEMO SCRIPT OUT     edit a demo by a script, and write the new demo to OUT
+  level WAD TABLES DEMO    check the level that a demo plays, and tell what it holds
+  --help, -h               print this
+  --version                print the program's name and version
+";
+
+/// The program's name and version.
+pub const VERSION: &str = "dsda_build 0.1
+";
+
+/// Writes these texts to standard output.
+pub fn print(rt: &HostRuntime, text: &str) -> Result<(), PushFault> {
+    OutSink::new(rt).push(text.as_bytes())
+}
+
+/// Says on standard error why a run ended so. `failure` says what failed last, and `has_put` that OUT was written.
+pub fn explain(rt: &HostRuntime, status: &Status, failure: &str, has_put: bool) {
+    match status {
+        Status::Done | Status::Refused(_) => {}
+        Status::Usage => say(rt, USAGE),
+        Status::ReadFault | Status::WriteFault => {
+            say(rt, failure);
+            say(rt, "\n");
+        }
+        Status::NoteFault => {
+            say(rt, failure);
+            say_written(rt, has_put);
+        }
+        Status::Memory => {
+            say(rt, "out of memory");
+            say_written(rt, has_put);
+        }
+    }
+}
+
+fn say_written(rt: &HostRuntime, has_put: bool) {
+    say(
+        rt,
+        if has_put {
+            "; OUT is written\n"
+        } else {
+            "; nothing is written\n"
+        },
+    );
+}
+
+/// Writes a text to standard error. Where that fails, nobody is left to be told.
+fn say(rt: &HostRuntime, text: &str) {
+    let _ = OutSink::new(rt.stderr()).push(text.as_bytes());
+}
