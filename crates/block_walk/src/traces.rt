@@ -12,9 +12,10 @@ use crate::fault::TraceFault;
 use crate::lines::{ALL_WORDS, END_MARK, FEW_LINES, FEW_WORDS, MANY_LINES, MANY_WORDS};
 use crate::lists::Walked;
 use crate::marks::mark;
-use crate::numbers::{difference, sum};
 use crate::walk::Walk;
-use map_geometry::{Block, DivLine, Level, Line, divline_side, intercept, line_side};
+use map_geometry::{
+    Block, DivLine, Level, Line, difference, divline_side, intercept, line_side, sum,
+};
 
 /// One in fixed point: a map unit, and the fraction of a trace's end.
 const ONE: i32 = 65536;

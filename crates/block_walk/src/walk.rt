@@ -2,9 +2,9 @@
 ghost use Rattle.std.specs.Prelude.{◌≡◌};
 ghost use Rattle.block_walk.specs.Visits.{in_blocks, part_of_block, slope_between, axis_by, axis_of, begin_of, is_at_end, moved_of, column_next, row_next, next_of};
 
-use crate::numbers::{difference, in_blocks, sum, whole};
+use crate::numbers::{in_blocks, whole};
 use fixed_angle::{fixed_div, fixed_mul};
-use map_geometry::{Block, blocks_below};
+use map_geometry::{Block, blocks_below, difference, sum};
 
 /// One in fixed point.
 const ONE: i32 = 65536;

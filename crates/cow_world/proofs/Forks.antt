@@ -39,7 +39,7 @@ kept_again world other sectors specials things order blocks thinkers acted playe
   few_things = rw things kept.few_things;
   few_thinkers = rw thinkers kept.few_thinkers;
   entries = rw (halted, things, grid, order) kept.entries;
-  blocks = rw (blocks, grid) kept.blocks;
+  blocks = rw (halted, blocks, grid) kept.blocks;
   no_sectors = rw (halted, sectors) kept.no_sectors;
   no_specials = rw (halted, specials) kept.no_specials;
   no_things = rw (halted, things) kept.no_things;

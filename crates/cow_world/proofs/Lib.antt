@@ -8,3 +8,4 @@ pub mod Writes
 pub mod Neighbours
 pub mod Blocks
 pub mod SpawnedLinks
+pub mod Keeps

@@ -191,3 +191,7 @@ opening level = record {
   flat = live (record no_parts { sectors = map sector_from level.sectors; specials = map special_from level.lines });
   grid = grid_of level;
 }
+
+-- a halted world of a level
+abbrev pub halted_on : Lists → ℕ → Halt → Gridded
+halted_on level tic halt = record { flat = halted tic halt; grid = grid_of level }

@@ -56,7 +56,7 @@ pub record IsKept (world : Inside) : Type 0 where
   pub few_things : length world.things < 2 ^ 32
   pub few_thinkers : length world.thinkers < 2 ^ 32
   pub entries : world.halted ≡ None → All (IsEntry world.things world.grid) world.order.order
-  pub blocks : world.order.blocks ≡ world.grid.width * world.grid.height
+  pub blocks : world.halted ≡ None → world.order.blocks ≡ world.grid.width * world.grid.height
   pub no_sectors : (end : ℕ × Halt) → world.halted ≡ Some end → world.sectors ≡ []
   pub no_specials : (end : ℕ × Halt) → world.halted ≡ Some end → world.specials ≡ []
   pub no_things : (end : ℕ × Halt) → world.halted ≡ Some end → world.things ≡ []

@@ -3,7 +3,7 @@ ghost use Rattle.std.specs.Prelude.{◌≡◌, ℕ, ◌+◌, ◌*◌, ◌^◌, �
 ghost use Rattle.fixed_angle.specs.Tables.{Tables};
 ghost use Rattle.map_geometry.specs.Lists.{nth_sector};
 ghost use Rattle.cow_world.specs.Fits.{FitsLevel, FitsBut};
-ghost use Rattle.cow_world.specs.Flat.{opening, no_player, sector_from, special_from, page_sum, item_sum, halt_of, set_halted, IsLive};
+ghost use Rattle.cow_world.specs.Flat.{opening, no_player, sector_from, special_from, page_sum, item_sum, halt_of, set_halted, halted_on, IsLive};
 
 use crate::grid::{Grid, level_grid};
 use crate::records::{Player, Sector, Thinker};
@@ -174,6 +174,14 @@ impl World {
         self.acted.clear();
         self.player = no_player();
         self.halted = Some((tic, halt));
+    }
+
+    /// Halts a world of a level, in whatever state a part of a tic left it when it ended early.
+    pub fn halt_on(&mut self, level: &Level, tic: u64, halt: Halt)
+        ensures { self.new ≡ halted_on level.now tic halt }
+    {
+        self.set_halted(tic, halt);
+        self.grid = level_grid(level);
     }
 }
 

@@ -1,16 +1,15 @@
 -- Lights and doors that begin in one sector after another.
-use Rattle.std.proofs.Common.{◌≡◌, ℕ, suc, ◌+◌, ◌-◌, ◌<◌, ◌≤◌, ℤ, [], ◌∷◌, length, refl, sym, arith}
+use Rattle.std.proofs.Common.{◌≡◌, ℕ, suc, ◌+◌, ◌-◌, ◌<◌, ℤ, length, refl, arith}
 use Rattle.std.specs.Prelude.{fold}
 use Rattle.std.specs.List.{range_with_len}
 use Rattle.fixed_angle.specs.Tables.{Tables}
 use Rattle.map_geometry.specs.Lists.{Lists}
-use Rattle.map_geometry.specs.Sectors.{with_tag_from}
 use Rattle.cow_world.specs.Flat.{Gridded}
 use Rattle.cow_world.specs.Fits.{KeepsFit}
 use Rattle.light_fx.specs.Begins.{begun_in, spawn_lights_of}
 use Rattle.light_fx.specs.Lights.{lit}
 use Rattle.light_fx.specs.LineLights.{greatest_so_far, turned_to_greatest}
-use Rattle.light_fx.proofs.Keeps.{keeps_same, keeps_two}
+use Rattle.cow_world.proofs.Keeps.{keeps_same, keeps_two}
 
 -- what begins in the sectors from number i on gives what all gives from the first
 pub record Begun (level : Lists) (tables : Tables) (first now : Gridded) (i : ℕ) : Type 0 where
@@ -32,28 +31,6 @@ pub begun_all : (level : Lists) (tables : Tables) (first now : Gridded) (i : ℕ
 begun_all level tables first now i begun end =
     let none : length level.sectors - i ≡ 0 = omega arith in
     rw none at begun.left
-
--- ---- in the sectors with a tag
-
--- what is done in the sectors with a tag from number `from` on gives what is done in all of them
-pub record Tagged {A : Type 0} (f : A → ℕ → A) (level : Lists) (tag : ℤ) (whole now : A) (from : ℕ) : Type 0 where
-  pub left : fold f now (with_tag_from level tag from) ≡ whole
-  pub within : from ≤ length level.sectors
-
-pub tagged_next : {A : Type 0} (f : A → ℕ → A) (level : Lists) (tag : ℤ) (whole now next : A) (from sector : ℕ) → Tagged f level tag whole now from → with_tag_from level tag from ≡ sector ∷ with_tag_from level tag (sector + 1) → sector < length level.sectors → next ≡ f now sector → Tagged f level tag whole next (sector + 1)
-tagged_next f level tag whole now next from sector tagged found below is = record { left = rw is (rw found at tagged.left); within = omega arith }
-
-pub tagged_all : {A : Type 0} (f : A → ℕ → A) (level : Lists) (tag : ℤ) (whole now : A) (from : ℕ) → Tagged f level tag whole now from → with_tag_from level tag from ≡ [] → now ≡ whole
-tagged_all f level tag whole now from tagged none = rw none at tagged.left
-
--- each sector that was found leaves one less
-pub tagged_fewer : (level : Lists) (tag : ℤ) (from sector : ℕ) → with_tag_from level tag from ≡ sector ∷ with_tag_from level tag (sector + 1) → length (with_tag_from level tag (sector + 1)) < length (with_tag_from level tag from)
-tagged_fewer level tag from sector found = rw found (omega arith)
-
--- the same for a sector whose number is written in another way
-pub tagged_on : {A : Type 0} (f : A → ℕ → A) (level : Lists) (tag : ℤ) (whole now next : A) (from sector number : ℕ) → Tagged f level tag whole now from → with_tag_from level tag from ≡ sector ∷ with_tag_from level tag (sector + 1) → sector < length level.sectors → number ≡ sector → next ≡ f now number → Tagged f level tag whole next (sector + 1)
-tagged_on f level tag whole now next from sector number tagged found below same next-is =
-    tagged_next f level tag whole now next from sector tagged found below (rw (sym same) next-is)
 
 -- the greatest light so far goes on with the world that has it
 pub greatest_next : (level : Lists) (world next : Gridded) (greatest light : ℤ) (number : ℕ) → light ≡ greatest_so_far level world greatest number → next ≡ lit world number light → (next, light) ≡ turned_to_greatest level (world, greatest) number

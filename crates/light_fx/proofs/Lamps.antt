@@ -15,7 +15,7 @@ use Rattle.cow_world.specs.Random.{draw}
 use Rattle.light_fx.specs.declared.lamp.Lamp.{Lamp}
 use Rattle.light_fx.specs.Lights.{lit, light_at, with_count, with_way, short_count, long_count, flicker_light, flicker_step, glow_light, is_glow_end, turned_round, counts_down, flash_turned, strobe_turned, flicker_turned, glow_moved, lamp_moved, light_moved, run_light_of, run_lights_of}
 use Rattle.cow_world.specs.Fits.{KeepsFit}
-use Rattle.light_fx.proofs.Keeps.{keeps_same, keeps_two}
+use Rattle.cow_world.proofs.Keeps.{keeps_same, keeps_two}
 
 abbrev count : Gridded → ℕ
 count world = length (parts world).thinkers

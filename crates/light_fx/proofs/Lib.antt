@@ -1,3 +1,2 @@
 pub mod Lamps
-pub mod Keeps
 pub mod Begun

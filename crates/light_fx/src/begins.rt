@@ -9,11 +9,11 @@ ghost use Rattle.cow_world.specs.declared.records.Thinker.TheVariants.{Light};
 ghost use Rattle.light_fx.specs.Begins.{plain, strobe_min, flash_begun, strobe_begun, strobe_in_step, glow_begun, flicker_begun, door_begun, closing_door, opening_door, begun_by, begun_in, spawn_lights_of};
 
 use crate::lights::{long_count, short_count};
-use crate::numbers::{brighter, difference};
+use crate::numbers::brighter;
 use cow_world::{DoorKind, DoorPhase, GlowKind, Sector, Thinker, World};
 use doom_edge::{Memory, Steps};
 use fixed_angle::PlayTables;
-use map_geometry::Level;
+use map_geometry::{Level, difference};
 
 /// How long a strobe stays dark, in tics.
 pub const FAST_DARK: i32 = 15;
@@ -68,7 +68,7 @@ pub fn spawn_lights(
 }
 
 // Begins what the special of one sector asks for.
-#[tactic(auto, using(crate::proofs::Keeps::keeps_two, crate::proofs::Keeps::keeps_same))]
+#[tactic(auto, using(cow_world::proofs::Keeps::keeps_two, cow_world::proofs::Keeps::keeps_same))]
 fn begin_in(
     level: &Level,
     tables: &PlayTables,

@@ -5,11 +5,11 @@ ghost use Rattle.cow_world.specs.Fits.{FitsLevel, KeepsFit};
 ghost use Rattle.light_fx.specs.Lights.{light_at, IsLamp, short_count, long_count, flicker_step, flash_turned, strobe_turned, flicker_light, flicker_turned, glow_light, is_glow_end, glow_moved, lamp_moved, run_light_of, run_lights_of};
 
 use crate::lamp::{Lamp, set_count, set_light, set_way};
-use crate::numbers::{brighter, darker, difference, is_at_end};
+use crate::numbers::{brighter, darker, is_at_end};
 use cow_world::{GlowKind, Thinker, World};
 use doom_edge::{Memory, Steps};
 use fixed_angle::PlayTables;
-use map_geometry::Level;
+use map_geometry::{Level, difference};
 
 /// How many tics a strobe stays bright.
 const BRIGHT_TICS: i32 = 5;
@@ -123,7 +123,7 @@ fn run_lamp(
 }
 
 // A flash at the end of its count.
-#[tactic(auto, using(crate::proofs::Keeps::keeps_two, crate::proofs::Keeps::keeps_three))]
+#[tactic(auto, using(cow_world::proofs::Keeps::keeps_two, cow_world::proofs::Keeps::keeps_three))]
 fn turn_flash(
     level: &Level,
     tables: &PlayTables,
@@ -165,7 +165,7 @@ pub fn long_count(number: u8) -> i32
 }
 
 // A strobe at the end of its count.
-#[tactic(auto, using(crate::proofs::Keeps::keeps_two, crate::proofs::Keeps::keeps_three))]
+#[tactic(auto, using(cow_world::proofs::Keeps::keeps_two, cow_world::proofs::Keeps::keeps_three))]
 fn turn_strobe(
     level: &Level,
     world: &mut World,
@@ -191,7 +191,7 @@ fn turn_strobe(
 }
 
 // A flicker at the end of its count.
-#[tactic(auto, using(crate::proofs::Keeps::keeps_two, crate::proofs::Keeps::keeps_three))]
+#[tactic(auto, using(cow_world::proofs::Keeps::keeps_two, cow_world::proofs::Keeps::keeps_three))]
 fn turn_flicker(
     level: &Level,
     tables: &PlayTables,

@@ -44,7 +44,7 @@ pub fn line_light(
 }
 
 // Gives all sectors with a tag the same light.
-#[tactic(auto, using(crate::proofs::Begun::tagged_next, crate::proofs::Begun::tagged_all, crate::proofs::Keeps::keeps_same, crate::proofs::Keeps::keeps_two))]
+#[tactic(auto, using(map_geometry::proofs::Tagged::tagged_next, map_geometry::proofs::Tagged::tagged_all, cow_world::proofs::Keeps::keeps_same, cow_world::proofs::Keeps::keeps_two))]
 fn light_all(
     level: &Level,
     world: &mut World,
@@ -80,7 +80,7 @@ fn number_of(world: &World, sector: usize) -> u32
 }
 
 // Gives the sectors with a tag the greatest light around the first of them that has one.
-#[tactic(auto, using(crate::proofs::Begun::tagged_next, crate::proofs::Begun::tagged_all, crate::proofs::Keeps::keeps_same, crate::proofs::Keeps::keeps_two))]
+#[tactic(auto, using(map_geometry::proofs::Tagged::tagged_next, map_geometry::proofs::Tagged::tagged_all, cow_world::proofs::Keeps::keeps_same, cow_world::proofs::Keeps::keeps_two))]
 fn light_greatest(
     level: &Level,
     world: &mut World,
@@ -119,7 +119,7 @@ fn greatest_so_far(level: &Level, world: &World, greatest: i16, sector: u32) -> 
 }
 
 // Gives each of the sectors with a tag the least light of it and its neighbours.
-#[tactic(auto, using(crate::proofs::Begun::tagged_next, crate::proofs::Begun::tagged_all, crate::proofs::Keeps::keeps_same, crate::proofs::Keeps::keeps_two))]
+#[tactic(auto, using(map_geometry::proofs::Tagged::tagged_next, map_geometry::proofs::Tagged::tagged_all, cow_world::proofs::Keeps::keeps_same, cow_world::proofs::Keeps::keeps_two))]
 fn light_least(level: &Level, world: &mut World, tag: i16, steps: &mut Steps) -> Result<(), Memory>
     requires fits { FitsLevel level.now world.old }
     ensures ok { OnOk result (world.new ≡ lit_least level.now (sectors_with_tag level.now tag) world.old) }
@@ -140,7 +140,7 @@ fn light_least(level: &Level, world: &mut World, tag: i16, steps: &mut Steps) ->
 }
 
 // Begins a slow strobe in each of the sectors with a tag that nothing moves.
-#[tactic(auto, using(crate::proofs::Begun::tagged_next, crate::proofs::Begun::tagged_all, crate::proofs::Keeps::keeps_same, crate::proofs::Keeps::keeps_two))]
+#[tactic(auto, using(map_geometry::proofs::Tagged::tagged_next, map_geometry::proofs::Tagged::tagged_all, cow_world::proofs::Keeps::keeps_same, cow_world::proofs::Keeps::keeps_two))]
 fn strobe_all(
     level: &Level,
     tables: &PlayTables,
@@ -166,7 +166,7 @@ fn strobe_all(
 }
 
 // Begins a slow strobe in a sector that nothing moves.
-#[tactic(auto, using(crate::proofs::Keeps::keeps_two))]
+#[tactic(auto, using(cow_world::proofs::Keeps::keeps_two))]
 fn strobe_one(
     level: &Level,
     tables: &PlayTables,

@@ -1,14 +1,7 @@
 // Sums and differences that wrap.
 ghost use Rattle.std.specs.Prelude.{◌≡◌, ◌+ℤ◌, ◌-ℤ◌, pos};
 ghost use Rattle.std.specs.Ordering.{int_eq};
-ghost use Rattle.map_geometry.specs.Sides.{less};
 ghost use Rattle.light_fx.specs.Lights.{wrap16};
-
-pub fn difference(a: i32, b: i32) -> i32
-    ensures { result ≡ less a b }
-{
-    a.wrapping_sub(b)
-}
 
 /// A level of light with another added.
 pub fn brighter(light: i16, by: i16) -> i16

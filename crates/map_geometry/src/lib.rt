@@ -17,4 +17,4 @@ pub use fault::LevelFault;
 pub use level::{Level, LevelParts};
 pub use records::{Area, DivLine, Ground, Line, Node, Seg, Side, Slope, Spot, Subsector, Vertex};
 pub use sectors::{Outline, block_box, holding};
-pub use sides::{box_side, divline_side, intercept, line_side, node_side};
+pub use sides::{box_side, difference, divline_side, intercept, line_side, node_side, sum};

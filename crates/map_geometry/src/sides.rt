@@ -15,15 +15,17 @@ fn back_where(test: bool) -> u32
     if test { 1 } else { 0 }
 }
 
+/// The difference of two numbers, which wraps at 32 bits.
 #[inline]
-pub(crate) fn difference(a: i32, b: i32) -> i32
+pub fn difference(a: i32, b: i32) -> i32
     ensures { result ≡ less a b }
 {
     a.wrapping_sub(b)
 }
 
+/// The sum of two numbers, which wraps at 32 bits.
 #[inline]
-pub(crate) fn sum(a: i32, b: i32) -> i32
+pub fn sum(a: i32, b: i32) -> i32
     ensures { result ≡ plus a b }
 {
     a.wrapping_add(b)

@@ -1,6 +1,6 @@
 use Rattle.std.proofs.lemmas.Result.{on_ok_weaker}
 use Rattle.cow_world.specs.Fits.{KeepsFit}
-use Rattle.light_fx.proofs.Keeps.{keeps_two}
+use Rattle.cow_world.proofs.Keeps.{keeps_two}
 use Rattle.light_fx.proofs.begins.begin_in.Goals as goal
 use Rattle.light_fx.proofs.begins.begin_in.Goals.{in-1+in_ok-begin_flash-in-1, in-2+in_ok-begin_strobe-in-2, in-3+in_ok-begin_strobe-in-3, in-8+in_ok-begin_glow-in-8, in-10+in_ok-begin_door-in-10, in-12+in_ok-begin_in_step-in-12, in-13+in_ok-begin_in_step-in-13, in-14+in_ok-begin_door-in-14, in-17+in_ok-begin_flicker-in-17}
 

@@ -1,6 +1,6 @@
 use Rattle.std.proofs.Common.{rules}
 use Rattle.cow_world.specs.Fits.{KeepsFit}
-use Rattle.light_fx.proofs.Keeps.{keeps_two}
+use Rattle.cow_world.proofs.Keeps.{keeps_two}
 use Rattle.light_fx.proofs.begins.begin_strobe.Goals as goal
 
 pub returns-clause-fits : goal.returns-clause-fits

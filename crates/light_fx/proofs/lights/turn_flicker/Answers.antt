@@ -1,5 +1,5 @@
 use Rattle.std.proofs.lemmas.Result.{on_ok_weaker}
-use Rattle.light_fx.proofs.Keeps.{keeps_three}
+use Rattle.cow_world.proofs.Keeps.{keeps_three}
 use Rattle.light_fx.proofs.lights.turn_flicker.Goals as goal
 
 pub returns-clause-fits : goal.returns-clause-fits

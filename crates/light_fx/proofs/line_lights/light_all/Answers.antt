@@ -1,6 +1,6 @@
 use Rattle.std.proofs.Common.{◌∙◌, rules, arith}
-use Rattle.light_fx.proofs.Keeps.{keeps_two}
-use Rattle.light_fx.proofs.Begun.{tagged_fewer, tagged_on}
+use Rattle.cow_world.proofs.Keeps.{keeps_two}
+use Rattle.map_geometry.proofs.Tagged.{tagged_fewer, tagged_on}
 use Rattle.light_fx.proofs.line_lights.light_all.Goals as goal
 
 pub loop-sector-smaller : goal.loop-sector-smaller

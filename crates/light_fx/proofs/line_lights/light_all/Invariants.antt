@@ -3,7 +3,7 @@ use Rattle.map_geometry.specs.Sectors.{sectors_with_tag, with_tag_from}
 use Rattle.cow_world.specs.Fits.{KeepsFit}
 use Rattle.light_fx.specs.Lights.{lit}
 use Rattle.light_fx.specs.LineLights.{lit_alike}
-use Rattle.light_fx.proofs.Begun.{Tagged}
+use Rattle.map_geometry.proofs.Tagged.{Tagged}
 use Rattle.light_fx.proofs.line_lights.light_all.Given as goal
 
 -- as many sectors are left

@@ -1,7 +1,8 @@
 use Rattle.std.proofs.Common.{◌∙◌, rules, arith, w16, to_z}
 use Rattle.std.proofs.lemmas.Int.{to_z-of_z}
-use Rattle.light_fx.proofs.Keeps.{keeps_two}
-use Rattle.light_fx.proofs.Begun.{tagged_fewer, tagged_on, greatest_next}
+use Rattle.cow_world.proofs.Keeps.{keeps_two}
+use Rattle.map_geometry.proofs.Tagged.{tagged_fewer, tagged_on}
+use Rattle.light_fx.proofs.Begun.{greatest_next}
 use Rattle.light_fx.proofs.line_lights.light_greatest.Goals as goal
 
 pub loop-sector-smaller : goal.loop-sector-smaller

@@ -2,7 +2,7 @@ use Rattle.std.proofs.Common.{◌≡◌, ◌≤◌, pos, length}
 use Rattle.map_geometry.specs.Sectors.{sectors_with_tag, with_tag_from}
 use Rattle.cow_world.specs.Fits.{KeepsFit}
 use Rattle.light_fx.specs.LineLights.{lit_greatest, turned_to_greatest}
-use Rattle.light_fx.proofs.Begun.{Tagged}
+use Rattle.map_geometry.proofs.Tagged.{Tagged}
 use Rattle.light_fx.proofs.line_lights.light_greatest.Given as goal
 
 -- as many sectors are left

@@ -1,7 +1,7 @@
 use Rattle.std.proofs.Common.{◌∙◌, rules, arith, w16}
 use Rattle.std.proofs.lemmas.Int.{to_z-of_z}
-use Rattle.light_fx.proofs.Keeps.{keeps_two}
-use Rattle.light_fx.proofs.Begun.{tagged_fewer, tagged_on}
+use Rattle.cow_world.proofs.Keeps.{keeps_two}
+use Rattle.map_geometry.proofs.Tagged.{tagged_fewer, tagged_on}
 use Rattle.light_fx.proofs.line_lights.light_least.Goals as goal
 
 pub loop-sector-smaller : goal.loop-sector-smaller

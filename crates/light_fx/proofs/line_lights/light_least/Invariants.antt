@@ -4,7 +4,7 @@ use Rattle.cow_world.specs.Fits.{KeepsFit}
 use Rattle.cow_world.specs.Around.{least_light}
 use Rattle.light_fx.specs.Lights.{lit}
 use Rattle.light_fx.specs.LineLights.{lit_least}
-use Rattle.light_fx.proofs.Begun.{Tagged}
+use Rattle.map_geometry.proofs.Tagged.{Tagged}
 use Rattle.light_fx.proofs.line_lights.light_least.Given as goal
 
 -- as many sectors are left

@@ -2,7 +2,7 @@ use Rattle.std.proofs.Common.{◌≡◌, ◌≤◌, length}
 use Rattle.map_geometry.specs.Sectors.{sectors_with_tag, with_tag_from}
 use Rattle.cow_world.specs.Fits.{KeepsFit}
 use Rattle.light_fx.specs.LineLights.{strobed, strobed_all}
-use Rattle.light_fx.proofs.Begun.{Tagged}
+use Rattle.map_geometry.proofs.Tagged.{Tagged}
 use Rattle.light_fx.proofs.line_lights.strobe_all.Given as goal
 
 -- as many sectors are left

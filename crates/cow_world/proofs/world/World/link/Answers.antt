@@ -31,8 +31,9 @@ set-requires c =
 
 pub link-requires-clause-within : goal.link-requires-clause-within
 link-requires-clause-within c =
+    let live = is_live _ _ _ _ c.self.view_is c.requires.live in
     let own = sym c.requires.grid ∙ sym (ap (λ (w : Gridded). w.grid) c.self.view_is) in
-    let blocks = ap (λ (g : Grid). g.width * g.height) own ∙ (sym c.self.invariant.blocks ∙ sym c.make_room.ensures.blocks) in
+    let blocks = ap (λ (g : Grid). g.width * g.height) own ∙ (sym (c.self.invariant.blocks live) ∙ sym c.make_room.ensures.blocks) in
     let Within : ℕ → Type 0 = λ n. IfSome c.cell_under-block.result (λ b. b < n) in
     subst Within blocks c.cell_under-block.ensures.within
 
