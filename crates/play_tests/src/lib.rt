@@ -2,13 +2,19 @@
 #![tactic(auto)]
 
 #[cfg(test)]
+mod around;
+#[cfg(test)]
 mod bodies;
 #[cfg(test)]
 mod levels;
 #[cfg(test)]
+mod lights;
+#[cfg(test)]
 mod links;
 #[cfg(test)]
 mod orders;
+#[cfg(test)]
+mod starts;
 #[cfg(test)]
 mod stores;
 #[cfg(test)]

@@ -1,0 +1,3 @@
+pub mod Angles
+pub mod Entered
+pub mod Linked

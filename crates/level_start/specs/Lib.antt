@@ -1,0 +1,12 @@
+pub mod Entries
+pub mod Spawns
+pub mod Links
+pub mod Start
+pub mod Begun
+pub use Rattle.cow_world.specs.Flat
+pub use Rattle.cow_world.specs.Fits
+pub use Rattle.cow_world.specs.Random
+pub use Rattle.cow_world.specs.Spawned
+pub use Rattle.cow_world.specs.Shapes
+pub use Rattle.light_fx.specs.Begins
+pub use Rattle.block_walk.specs.Places
