@@ -1,0 +1,10 @@
+pub mod Aside
+pub mod Touches
+pub mod Things
+pub mod Lines
+pub mod Checks
+pub mod Clips
+pub use Rattle.cow_world.specs.Flat
+pub use Rattle.cow_world.specs.Fits
+pub use Rattle.cow_world.specs.Outcome
+pub use Rattle.cow_world.specs.Shapes
