@@ -1,0 +1,10 @@
+pub mod Angles
+pub mod Traced
+pub mod Stops
+pub mod Best
+pub mod Along
+pub use Rattle.block_walk.specs.Traces
+pub use Rattle.cow_world.specs.Flat
+pub use Rattle.cow_world.specs.Fits
+pub use Rattle.cow_world.specs.Gaps
+pub use Rattle.cow_world.specs.Outcome
