@@ -1,0 +1,10 @@
+pub mod Begun
+pub mod Doors
+pub mod Floors
+pub mod Lifts
+pub mod Manual
+pub use Rattle.cow_world.specs.Flat
+pub use Rattle.cow_world.specs.Fits
+pub use Rattle.cow_world.specs.Outcome
+pub use Rattle.cow_world.specs.Random
+pub use Rattle.cow_world.specs.Around
