@@ -1,0 +1,4 @@
+pub mod Each
+pub mod Standing
+pub mod Turns
+pub mod Running

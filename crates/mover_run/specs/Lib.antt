@@ -1,0 +1,11 @@
+pub mod Movers
+pub mod Planes
+pub mod Doors
+pub mod Lifts
+pub mod Floors
+pub mod Runs
+pub use Rattle.cow_world.specs.Flat
+pub use Rattle.cow_world.specs.Fits
+pub use Rattle.cow_world.specs.Outcome
+pub use Rattle.clip_check.specs.Aside
+pub use Rattle.clip_check.specs.Clips
