@@ -1,0 +1,13 @@
+pub mod Table
+pub mod Teleports
+pub mod Acts
+pub use Rattle.cow_world.specs.Flat
+pub use Rattle.cow_world.specs.Fits
+pub use Rattle.cow_world.specs.Outcome
+pub use Rattle.cow_world.specs.Random
+pub use Rattle.cow_world.specs.Shapes
+pub use Rattle.light_fx.specs.LineLights
+pub use Rattle.mover_start.specs.Doors
+pub use Rattle.mover_start.specs.Floors
+pub use Rattle.mover_start.specs.Lifts
+pub use Rattle.mover_start.specs.Manual
