@@ -1,0 +1,4 @@
+pub mod Numbers
+pub mod Fitted
+pub mod Steered
+pub mod Passes

@@ -1,0 +1,11 @@
+pub mod Player
+pub mod Tries
+pub mod Slides
+pub mod Moves
+pub mod Falls
+pub mod Uses
+pub mod Floors
+pub mod Thinks
+pub use Rattle.cow_world.specs.Flat
+pub use Rattle.cow_world.specs.Fits
+pub use Rattle.cow_world.specs.Outcome
