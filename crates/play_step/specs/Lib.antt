@@ -1,0 +1,7 @@
+pub mod Shown
+pub mod Step
+pub mod Doom
+pub use Rattle.cow_world.specs.Flat
+pub use Rattle.cow_world.specs.Fits
+pub use Rattle.cow_world.specs.Outcome
+pub use Rattle.level_start.specs.Start
