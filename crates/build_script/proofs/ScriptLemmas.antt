@@ -1,24 +1,27 @@
--- How the script of the lines that are left goes as the script of all lines does.
-use Rattle.std.proofs.Common.{Bool, ◌≡◌, ap, refl, ℕ, List, [], ◌∷◌, ◌++◌, append_assoc, append-nil, Result, Ok, Err, Option, Some, None}
-use Rattle.std.specs.Option.{option_to_list}
-use Rattle.std.specs.List.{filter_map, cons_option}
+-- How a text is refused by its first faulty line.
+use Rattle.std.proofs.Common.{Bool, ◌≡◌, ◌∙◌, sym, subst, ap, refl, ℕ, List, [], ◌∷◌, Result, Ok, Err}
+use Rattle.std.specs.Result.{IsErrAnd}
 use Rattle.build_script.specs.declared.fault.Kind.{Kind}
+use Rattle.build_script.specs.declared.fault.ScriptFault.{ScriptFault}
+use Rattle.build_script.specs.declared.fault.ScriptFault.TheVariants.{Line, Memory}
 use Rattle.build_script.specs.declared.commands.Entry.{Entry}
-use Rattle.build_script.specs.Script.{entry_of, fault_of, first_fault_or, script_from}
+use Rattle.build_script.specs.Script.{Reading, after_line, script_from, Gives, Follows}
 
--- a script behind the entries that were read already
-abbrev pub with_front : List Entry → Result (List Entry) (ℕ × Kind) → Result (List Entry) (ℕ × Kind)
-with_front front (Ok entries) = Ok (front ++ entries)
-with_front front (Err fault) = Err fault
+-- no line is read after the first faulty one
+refused : (worlds long : Bool) (fault : ℕ × Kind) (numbered : List (ℕ × List ℕ)) → script_from worlds long (Err fault) numbered ≡ Err fault
+refused worlds long fault [] = refl
+refused worlds long fault (line ∷ rest) = refused worlds long fault rest
 
-moved : (front entries : List Entry) (entry : Option Entry) (faults : List (ℕ × Kind))
-    → with_front (front ++ option_to_list entry) (first_fault_or faults entries) ≡ with_front front (first_fault_or faults (cons_option entry entries))
-moved front entries None [] = ap (λ start. Ok (start ++ entries)) (append-nil front)
-moved front entries (Some entry) [] = ap Ok (append_assoc front (entry ∷ []) entries)
-moved front entries entry (fault ∷ faults) = refl
+-- the refusal of a line is the text's
+stops : (worlds long : Bool) (read : Reading) (numbered : ℕ × List ℕ) (rest : List (ℕ × List ℕ)) (entries : List Entry) (all : Result (List Entry) (ℕ × Kind)) (fault : ScriptFault)
+    → script_from worlds long (Ok read) (numbered ∷ rest) ≡ all → Follows (Err fault) entries (after_line worlds long read numbered read.search) → Gives {A = List Entry} (Err fault) all
+stops worlds long read numbered rest entries all Memory so_far is = tt
+stops worlds long read numbered rest entries all (Line line kind) so_far is =
+    sym so_far ∙ ap (λ next. script_from worlds long next rest) is ∙ refused worlds long (line, kind) rest
 
--- a line without a fault only adds its entry
-pub script_from-cons : (long : Bool) (front : List Entry) (numbered : ℕ × List ℕ) (rest : List (ℕ × List ℕ)) → fault_of long numbered ≡ None
-    → with_front (front ++ option_to_list (entry_of long numbered)) (script_from long rest) ≡ with_front front (script_from long (numbered ∷ rest))
-script_from-cons long front numbered rest none =
-    rw none (moved front (filter_map (entry_of long) rest) (entry_of long numbered) (filter_map (fault_of long) rest))
+pub stopped : (worlds long : Bool) (read : Reading) (numbered : ℕ × List ℕ) (rest : List (ℕ × List ℕ)) (entries : List Entry) (all : Result (List Entry) (ℕ × Kind)) (fault : ScriptFault) (given : Result (List Entry) ScriptFault)
+    → script_from worlds long (Ok read) (numbered ∷ rest) ≡ all → Follows (Err fault) entries (after_line worlds long read numbered read.search)
+    → IsErrAnd given (λ (passed_on : ScriptFault). passed_on ≡ fault) → Gives given all
+stopped worlds long read numbered rest entries all fault (Ok value) so_far is passed_on = absurd passed_on
+stopped worlds long read numbered rest entries all fault (Err other) so_far is passed_on =
+    subst (λ (f : ScriptFault). Gives {A = List Entry} (Err f) all) (sym passed_on) (stops worlds long read numbered rest entries all fault so_far is)

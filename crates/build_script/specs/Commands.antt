@@ -1,64 +1,22 @@
--- The commands of a script: what each is written as, and the first fault in a line that is none.
-use Rattle.std.specs.Prelude.{ℕ, ℤ, pos, negsuc, ◌≡◌, Bool, List, [], ◌∷◌, codes, if◌then◌else◌, unsigned_abs, Result, Ok, Err, Option, Some, None}
-use Rattle.std.specs.Str.{bytes_eq}
+-- The lines outside a search: what each command is written as, and the first fault in a line that is none.
+use Rattle.std.specs.Prelude.{ℕ, ◌≡◌, ◌≤◌, Bool, true, false, ◌||◌, List, [], ◌∷◌, if◌then◌else◌, unsigned_abs, Result, Ok, Err, Option, Some, None}
 use Rattle.lmp_codec.specs.declared.input.Tic.{Tic}
-use Rattle.lmp_codec.specs.Turns.{least_turn, greatest_turn, turn_of}
+use Rattle.lmp_codec.specs.Turns.{turn_of}
 use Rattle.lmp_codec.specs.Tics.{tic_of, HoldsTurn}
-use Rattle.build_script.specs.declared.numbers.Bounds.{Bounds}
 use Rattle.build_script.specs.declared.fault.Kind.{Kind}
 use Rattle.build_script.specs.declared.fault.Kind.TheVariants.{Word, Missing}
 use Rattle.build_script.specs.declared.commands.Command.{Command}
-use Rattle.build_script.specs.declared.commands.Command.TheVariants.{Seek, Put, Insert, Delete, Cut, Repeat}
-use Rattle.build_script.specs.declared.judge.Name.{Name}
-use Rattle.build_script.specs.declared.judge.Name.TheVariants as names
-use Rattle.build_script.specs.Numbers.{number_within}
-
--- Words are judged from left to right: what follows is judged only where this one has no fault.
-infixl 10 ◌>>=◌
-abbrev pub ◌>>=◌ : {A B : Type 0} → Result A Kind → (A → Result B Kind) → Result B Kind
-(Ok x) >>= next = next x
-(Err kind) >>= next = Err kind
-
--- the number that the next word spells within its bounds, and the words after it
-abbrev pub next_number : Bounds → List (List ℕ) → Result (ℤ × List (List ℕ)) Kind
-next_number bounds [] = Err Missing
-next_number bounds (word ∷ rest) = number_within bounds word >>= λ number. Ok (number, rest)
-
--- what a step of the reading gave, and the words that it left, are what these say
-abbrev pub Reads : {A : Type 0} → Result A Kind → List (List ℕ) → Result (A × List (List ℕ)) Kind → Type 0
-Reads (Ok x) left read = read ≡ Ok (x, left)
-Reads (Err kind) left read = read ≡ Err kind
-
--- nothing may follow the last word that a command needs
-abbrev pub complete : {A : Type 0} → A → List (List ℕ) → Result A Kind
-complete x [] = Ok x
-complete x (word ∷ rest) = Err Word
-
--- ---- the bounds of each number (`negsuc n` is -1 - n)
-
--- a place for the cursor: 0 to 1,000,000
-abbrev pub place_bounds : Bounds
-place_bounds = record { least = pos 0; greatest = pos 1000000 }
-
--- -127 to 127
-abbrev pub forward_bounds : Bounds
-forward_bounds = record { least = negsuc 126; greatest = pos 127 }
-
--- -128 to 127
-abbrev pub side_bounds : Bounds
-side_bounds = record { least = negsuc 127; greatest = pos 127 }
-
--- -128 to 255, and in a long demo -32768 to 65535
-abbrev pub turn_bounds : Bool → Bounds
-turn_bounds long = record { least = least_turn long; greatest = greatest_turn long }
-
--- 0 to 255
-abbrev pub buttons_bounds : Bounds
-buttons_bounds = record { least = pos 0; greatest = pos 255 }
-
--- how many times a tic is put: 1 to 1,000,000
-abbrev pub count_bounds : Bounds
-count_bounds = record { least = pos 1; greatest = pos 1000000 }
+use Rattle.build_script.specs.declared.commands.Command.TheVariants.{Seek, Put, Insert, Delete, Cut, Repeat, Show, ShowSector, ShowKeys, ShowHealth, Go}
+use Rattle.build_script.specs.declared.names.Name.{Name}
+use Rattle.build_script.specs.declared.names.Name.TheVariants as names
+use Rattle.build_script.specs.declared.names.Form.{Form}
+use Rattle.build_script.specs.declared.names.Form.TheVariants as forms
+use Rattle.build_script.specs.declared.judge.Outside.{Outside}
+use Rattle.build_script.specs.declared.judge.Outside.TheVariants.{Nothing, Does, Opens}
+use Rattle.build_script.specs.Words.{name_of, form_of}
+use Rattle.build_script.specs.Steps.{◌>>=◌, next_number, complete, place_bounds, forward_bounds, side_bounds, turn_bounds, buttons_bounds, count_bounds, place_number_bounds, depth_bounds}
+use Rattle.std.specs.List.{starts_with}
+use Rattle.std.specs.Prelude.{nat_eq, codes}
 
 -- ---- what the words after a command's name say
 
@@ -83,28 +41,88 @@ count_in words = do
   count ← next_number count_bounds words
   complete (unsigned_abs count.0) count.1
 
--- the name that a word is
-abbrev pub name_of : List ℕ → Option Name
-name_of word =
-    if bytes_eq word (codes "seek") then Some names.Seek
-    else if bytes_eq word (codes "put") then Some names.Put
-    else if bytes_eq word (codes "insert") then Some names.Insert
-    else if bytes_eq word (codes "delete") then Some names.Delete
-    else if bytes_eq word (codes "cut") then Some names.Cut
-    else if bytes_eq word (codes "repeat") then Some names.Repeat
-    else None
+-- the number of a sector or a line
+abbrev pub number_in : List (List ℕ) → Result ℕ Kind
+number_in words = do
+  number ← next_number place_number_bounds words
+  complete (unsigned_abs number.0) number.1
 
--- the command of this name, with the words after it, for a long or a short demo
-abbrev pub command_of : Bool → Name → List (List ℕ) → Result Command Kind
-command_of long names.Seek words = place_in words >>= (λ place. Ok (Seek place))
-command_of long names.Put words = tic_in long words >>= (λ tic. Ok (Put tic))
-command_of long names.Insert words = tic_in long words >>= (λ tic. Ok (Insert tic))
-command_of long names.Delete words = complete Delete words
-command_of long names.Cut words = complete Cut words
-command_of long names.Repeat words = count_in words >>= (λ count. Ok (Repeat count))
+-- how many tics a search has
+abbrev pub depth_in : List (List ℕ) → Result ℕ Kind
+depth_in words = do
+  depth ← next_number depth_bounds words
+  complete (unsigned_abs depth.0) depth.1
 
--- a demo of this version holds the tic that a command adds, where it adds one
+-- what is shown: the player's place, or what this word names
+abbrev pub shown_as : Option Form → List (List ℕ) → Result Command Kind
+shown_as None words = Err Word
+shown_as (Some forms.Sector) words = number_in words >>= (λ sector. Ok (ShowSector sector))
+shown_as (Some forms.Keys) words = complete ShowKeys words
+shown_as (Some forms.Health) words = complete ShowHealth words
+
+abbrev pub shown_in : List (List ℕ) → Result Command Kind
+shown_in [] = Ok Show
+shown_in (word ∷ rest) = shown_as (form_of word) rest
+
+-- ---- the commands by their names
+
+-- a name that a script without worlds knows
+abbrev pub is_edit : Name → Bool
+is_edit names.Seek = true
+is_edit names.Put = true
+is_edit names.Insert = true
+is_edit names.Delete = true
+is_edit names.Cut = true
+is_edit names.Repeat = true
+is_edit names.Show = false
+is_edit names.Brute = false
+is_edit names.Range = false
+is_edit names.Want = false
+is_edit names.Go = false
+
+-- the name, if a script with or without worlds knows it
+abbrev pub known_in : Bool → Option Name → Option Name
+known_in worlds None = None
+known_in worlds (Some name) = if worlds || is_edit name then Some name else None
+
+-- What a name says with the words after it, for a long or a short demo. What belongs to a search wants one that is open.
+abbrev pub command_of : Bool → Name → List (List ℕ) → Result Outside Kind
+command_of long names.Seek words = place_in words >>= (λ place. Ok (Does (Seek place)))
+command_of long names.Put words = tic_in long words >>= (λ tic. Ok (Does (Put tic)))
+command_of long names.Insert words = tic_in long words >>= (λ tic. Ok (Does (Insert tic)))
+command_of long names.Delete words = complete (Does Delete) words
+command_of long names.Cut words = complete (Does Cut) words
+command_of long names.Repeat words = count_in words >>= (λ count. Ok (Does (Repeat count)))
+command_of long names.Show words = shown_in words >>= (λ shown. Ok (Does shown))
+command_of long names.Brute words = depth_in words >>= (λ depth. Ok (Opens depth))
+command_of long names.Range words = Err Missing
+command_of long names.Want words = Err Missing
+command_of long names.Go words = Err Missing
+
+abbrev pub named : Bool → Option Name → List (List ℕ) → Result Outside Kind
+named long None words = Err Word
+named long (Some name) words = command_of long name words
+
+-- a comment begins with a #
+abbrev pub is_comment : List ℕ → Bool
+is_comment word = starts_with nat_eq word (codes "#")
+
+-- What words say outside a search, in a script with or without worlds: nothing where there are none and in a comment.
+abbrev pub outside : Bool → Bool → List (List ℕ) → Result Outside Kind
+outside worlds long [] = Ok Nothing
+outside worlds long (word ∷ rest) = if is_comment word then Ok Nothing else named long (known_in worlds (name_of word)) rest
+
+-- ---- what holds of what they say
+
+-- a demo of this version holds the tics that a command adds, where it adds some
 abbrev pub HoldsTicOf : Bool → Command → Type 0
 HoldsTicOf long (Put tic) = HoldsTurn long tic
 HoldsTicOf long (Insert tic) = HoldsTurn long tic
+HoldsTicOf long (Go ranges wants) = ranges.long ≡ long
 HoldsTicOf long command = Unit {0}
+
+-- the same of a line, whose search has 1 to 35 tics where it opens one
+abbrev pub IsSoundOutside : Bool → Outside → Type 0
+IsSoundOutside long (Does command) = HoldsTicOf long command
+IsSoundOutside long (Opens depth) = (1 ≤ depth) × (depth ≤ 35)
+IsSoundOutside long Nothing = Unit {0}

@@ -1,4 +1,9 @@
-pub mod Commands
+pub mod Words
 pub mod Numbers
+pub mod Steps
+pub mod Commands
+pub mod Searches
+pub mod Opened
+pub mod Targets
 pub mod Script
 pub mod Text

@@ -1,6 +1,6 @@
 -- The numbers of a script: how a word spells one, and the bounds that each has.
-use Rattle.std.specs.Prelude.{ℕ, ℤ, pos, neg_ℤ, Bool, ◌&&◌, ◌||◌, List, length, drop, nat_le, int_lt, if◌then◌else◌, Result, Ok, Err}
-use Rattle.std.specs.List.{list_all}
+use Rattle.std.specs.Prelude.{ℕ, ◌-◌, ℤ, pos, neg_ℤ, ◌*ℤ◌, Bool, ◌&&◌, ◌||◌, List, length, take, drop, codes, nat_eq, nat_le, int_lt, if◌then◌else◌, Result, Ok, Err}
+use Rattle.std.specs.List.{list_all, ends_with}
 use Rattle.std.specs.Char.{is_ascii_digit}
 use Rattle.std.specs.Str.Parse.{starts_with_minus, digits_value}
 use Rattle.build_script.specs.declared.numbers.Bounds.{Bounds}
@@ -26,3 +26,17 @@ in_bounds bounds number = if int_lt number bounds.least || int_lt bounds.greates
 -- A word is judged whole: first its spelling, then its bounds.
 abbrev pub number_within : Bounds → List ℕ → Result ℤ Kind
 number_within bounds word = if is_number word then in_bounds bounds (number_of word) else Err Number
+
+-- ---- the value of a target
+
+-- the last byte of a word is a `u`
+abbrev pub ends_in_u : List ℕ → Bool
+ends_in_u word = ends_with nat_eq word (codes "u")
+
+-- a number of map units: each is 65536
+abbrev pub units_within : Bounds → List ℕ → Result ℤ Kind
+units_within bounds word = if is_number word then in_bounds bounds (number_of word *ℤ pos 65536) else Err Number
+
+-- a number, or one of map units where a `u` follows it
+abbrev pub value_within : Bounds → List ℕ → Result ℤ Kind
+value_within bounds word = if ends_in_u word then units_within bounds (take (length word - 1) word) else number_within bounds word

@@ -1,77 +1,119 @@
 -- The script of a text: the commands of its lines, or the first fault in them.
-use Rattle.std.specs.Prelude.{◌≡◌, ℕ, Bool, nat_eq, List, All, [], ◌∷◌, codes, if◌then◌else◌, Result, Ok, Err, Option, Some, None}
-use Rattle.std.specs.List.{starts_with, enumerate_from, filter_map}
+use Rattle.std.specs.Prelude.{◌≡◌, ℕ, Bool, List, All, [], ◌∷◌, ◌++◌, length, fold, nat_lt, if◌then◌else◌, Result, Ok, Err, Option, Some, None}
+use Rattle.std.specs.List.{enumerate_from}
 use Rattle.std.specs.Str.Lines.{lines}
+use Rattle.brute_ranges.specs.declared.fault.SpaceFault.{SpaceFault}
+use Rattle.brute_ranges.specs.declared.fault.SpaceFault.TheVariants as space_fault
 use Rattle.build_script.specs.declared.fault.Kind.{Kind}
-use Rattle.build_script.specs.declared.fault.Kind.TheVariants.{Word}
+use Rattle.build_script.specs.declared.fault.Kind.TheVariants as kind
 use Rattle.build_script.specs.declared.fault.ScriptFault.{ScriptFault}
 use Rattle.build_script.specs.declared.fault.ScriptFault.TheVariants.{Line, Memory}
-use Rattle.build_script.specs.declared.judge.Name.{Name}
 use Rattle.build_script.specs.declared.commands.Command.{Command}
+use Rattle.build_script.specs.declared.commands.Command.TheVariants.{Go, Want}
 use Rattle.build_script.specs.declared.commands.Entry.{Entry}
-use Rattle.build_script.specs.Commands.{◌>>=◌, name_of, command_of, HoldsTicOf}
+use Rattle.build_script.specs.declared.judge.Outside.{Outside}
+use Rattle.build_script.specs.declared.judge.Outside.TheVariants as out
+use Rattle.build_script.specs.declared.within.Inside.{Inside}
+use Rattle.build_script.specs.declared.within.Inside.TheVariants as inner
+use Rattle.build_script.specs.Opened.{Opened}
+use Rattle.build_script.specs.Commands.{outside, HoldsTicOf}
+use Rattle.build_script.specs.Searches.{inside, opened, narrowed, with_tics, with_want, most_wants, is_space}
 use Rattle.build_script.specs.Text.{words}
 
--- a comment begins with a #
-abbrev pub is_comment : List ℕ → Bool
-is_comment word = starts_with nat_eq word (codes "#")
+-- What was read so far: the search that is open, and the commands.
+pub record Reading : Type 0 where
+  pub search : Option Opened
+  pub entries : List Entry
 
--- what a name says with the words after it, for a long or a short demo
-abbrev pub named : Bool → Option Name → List (List ℕ) → Result (Option Command) Kind
-named long None rest = Err Word
-named long (Some name) rest = command_of long name rest >>= (λ command. Ok (Some command))
+abbrev pub reading : Option Opened → List Entry → Reading
+reading search entries = record { search = search; entries = entries }
 
--- what words say: a command, or nothing where there are none and in a comment
-abbrev pub said : Bool → List (List ℕ) → Result (Option Command) Kind
-said long [] = Ok None
-said long (word ∷ rest) = if is_comment word then Ok None else named long (name_of word) rest
+-- the commands with one more, of this line
+abbrev pub with_entry : List Entry → ℕ → Command → List Entry
+with_entry entries line command = entries ++ record { line = line; command = command } ∷ []
 
-abbrev pub said_by : Bool → List ℕ → Result (Option Command) Kind
-said_by long line = said long (words line)
+-- what a line outside a search makes of the reading
+abbrev pub after_outside : Bool → ℕ → List Entry → Result Outside Kind → Result Reading (ℕ × Kind)
+after_outside long line entries (Ok out.Nothing) = Ok (reading None entries)
+after_outside long line entries (Ok (out.Does command)) = Ok (reading None (with_entry entries line command))
+after_outside long line entries (Ok (out.Opens depth)) = Ok (reading (Some (opened line depth long)) entries)
+after_outside long line entries (Err fault) = Err (line, fault)
 
--- the entry that a line with its number gives, if it says a command
-abbrev pub entry_of : Bool → ℕ × List ℕ → Option Entry
-entry_of long numbered = entry_from (said_by long numbered.1)
-  where
-    entry_from : Result (Option Command) Kind → Option Entry
-    entry_from (Ok (Some command)) = Some (record { line = numbered.0; command = command })
-    entry_from (Ok None) = None
-    entry_from (Err kind) = None
+-- the command of a search that is carried out at a line
+abbrev pub gone : ℕ → Opened → Result Command (ℕ × Kind)
+gone line search = if is_space search.ranges then Ok (Go search.ranges search.wants) else Err (line, kind.Space)
 
--- the fault of a line with its number, if it has one
-abbrev pub fault_of : Bool → ℕ × List ℕ → Option (ℕ × Kind)
-fault_of long numbered = fault_from (said_by long numbered.1)
-  where
-    fault_from : Result (Option Command) Kind → Option (ℕ × Kind)
-    fault_from (Ok command) = None
-    fault_from (Err kind) = Some (numbered.0, kind)
+-- with this command the reading goes on outside a search
+abbrev pub after_search : ℕ → List Entry → Result Command (ℕ × Kind) → Result Reading (ℕ × Kind)
+after_search line entries (Ok command) = Ok (reading None (with_entry entries line command))
+after_search line entries (Err fault) = Err fault
 
--- the first of the faults where there is one, and else the entries
-abbrev pub first_fault_or : List (ℕ × Kind) → List Entry → Result (List Entry) (ℕ × Kind)
-first_fault_or [] entries = Ok entries
-first_fault_or (fault ∷ faults) entries = Err fault
+-- What a line within a search makes of it. The 17th target and too many sequences are judged last. A target is a command
+-- of its line too, so that its name can be judged there.
+abbrev pub after_inside : ℕ → List Entry → Opened → Result Inside Kind → Result Reading (ℕ × Kind)
+after_inside line entries search (Ok inner.Nothing) = Ok (reading (Some search) entries)
+after_inside line entries search (Ok (inner.Narrows tics axis range)) =
+    Ok (reading (Some (with_tics search (narrowed tics axis range search.ranges.tics))) entries)
+after_inside line entries search (Ok (inner.Adds want)) =
+    if nat_lt (length search.wants) most_wants then Ok (reading (Some (with_want search want)) (with_entry entries line (Want want))) else Err (line, kind.Range)
+after_inside line entries search (Ok inner.Goes) = after_search line entries (gone line search)
+after_inside line entries search (Err fault) = Err (line, fault)
 
--- the script of lines that have their numbers
-abbrev pub script_from : Bool → List (ℕ × List ℕ) → Result (List Entry) (ℕ × Kind)
-script_from long numbered = first_fault_or (filter_map (fault_of long) numbered) (filter_map (entry_of long) numbered)
+-- one line more
+abbrev pub after_line : Bool → Bool → Reading → ℕ × List ℕ → Option Opened → Result Reading (ℕ × Kind)
+after_line worlds long read numbered None = after_outside long numbered.0 read.entries (outside worlds long (words numbered.1))
+after_line worlds long read numbered (Some search) =
+    after_inside numbered.0 read.entries search (inside (length search.ranges.tics) search.ranges.long (words numbered.1))
 
--- The script of a text. A line ends at an LF, or at the end of the text, and loses the one CR right before its LF; so
--- an LF at the end of the text begins no further line. All lines are counted, from 1. The words that only a session with
--- worlds has are not known yet, so the first argument makes no difference.
+-- none is read after the first faulty one
+abbrev pub next_line : Bool → Bool → Result Reading (ℕ × Kind) → ℕ × List ℕ → Result Reading (ℕ × Kind)
+next_line worlds long (Ok read) numbered = after_line worlds long read numbered read.search
+next_line worlds long (Err fault) numbered = Err fault
+
+-- no search may be open at the end
+abbrev pub closed : Option Opened → List Entry → Result (List Entry) (ℕ × Kind)
+closed None entries = Ok entries
+closed (Some search) entries = Err (search.line, kind.Missing)
+
+abbrev pub ended : Result Reading (ℕ × Kind) → Result (List Entry) (ℕ × Kind)
+ended (Ok read) = closed read.search read.entries
+ended (Err fault) = Err fault
+
+-- the script of lines that have their numbers, after what was read before them
+abbrev pub script_from : Bool → Bool → Result Reading (ℕ × Kind) → List (ℕ × List ℕ) → Result (List Entry) (ℕ × Kind)
+script_from worlds long read numbered = ended (fold (next_line worlds long) read numbered)
+
+-- The script of a text, with or without the words of a session that has worlds, for a long or a short demo. A line ends
+-- at an LF, or at the end of the text, and loses the one CR right before its LF; so an LF at the end of the text begins
+-- no further line. All lines are counted, from 1.
 abbrev pub script_of : Bool → Bool → List ℕ → Result (List Entry) (ℕ × Kind)
-script_of worlds long bytes = script_from long (enumerate_from 1 (lines bytes))
+script_of worlds long bytes = script_from worlds long (Ok (reading None [])) (enumerate_from 1 (lines bytes))
 
 -- a demo of this version holds each tic that the commands add
 abbrev pub HoldsTics : Bool → List Entry → Type 0
 HoldsTics long entries = All (λ entry. HoldsTicOf long entry.command) entries
 
--- what was read is what the text says, unless memory ran out
-abbrev pub Gives : Result (List Entry) ScriptFault → Result (List Entry) (ℕ × Kind) → Type 0
-Gives (Ok entries) script = script ≡ Ok entries
-Gives (Err (Line line kind)) script = script ≡ Err (line, kind)
-Gives (Err Memory) script = Unit {0}
+-- a search is one for a demo of this version, where one is open
+abbrev pub IsFor : Bool → Option Opened → Type 0
+IsFor long None = Unit {0}
+IsFor long (Some search) = search.ranges.long ≡ long
 
--- the fault that a line was refused for is its own, unless memory ran out
-abbrev pub IsFault : ScriptFault → Option (ℕ × Kind) → Type 0
-IsFault (Line line kind) fault = fault ≡ Some (line, kind)
-IsFault Memory fault = Unit {0}
+-- the search that is open after a line, and the commands, are what the line makes of the reading, unless memory ran out
+abbrev pub Follows : Result (Option Opened) ScriptFault → List Entry → Result Reading (ℕ × Kind) → Type 0
+Follows (Ok search) entries read = read ≡ Ok (reading search entries)
+Follows (Err (Line line kind)) entries read = read ≡ Err (line, kind)
+Follows (Err Memory) entries read = Unit {0}
+
+-- what is answered is what the definition says, unless memory ran out
+abbrev pub Gives : {A : Type 0} → Result A ScriptFault → Result A (ℕ × Kind) → Type 0
+Gives (Ok x) said = said ≡ Ok x
+Gives (Err (Line line kind)) said = said ≡ Err (line, kind)
+Gives (Err Memory) said = Unit {0}
+
+-- the fault of a line whose ranges, each of which a tic may have, make no space
+abbrev pub space_refusal : ℕ → SpaceFault → ScriptFault
+space_refusal line space_fault.Memory = Memory
+space_refusal line space_fault.TooMany = Line line kind.Space
+space_refusal line (space_fault.Depth depth) = Line line kind.Space
+space_refusal line (space_fault.Bounds tic) = Line line kind.Space
+space_refusal line (space_fault.EmptyRange tic) = Line line kind.Space

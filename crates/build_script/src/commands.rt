@@ -2,11 +2,13 @@ ghost use Rattle.std.specs.Prelude.{◌≡◌, ◌<◌, ◌↔◌, [], length, s
 ghost use Rattle.std.specs.Option.{option_map};
 ghost use Rattle.build_script.specs.declared.commands.Entry.{Entry as EntryValue};
 
+use brute_ranges::Space;
+use brute_targets::{Want, Wants};
 use lmp_codec::Tic;
 use std::marker::Model;
 
 /// One command of a script. The tics that it edits have a cursor between 0 and their number.
-#[derive(Debug, PartialEq, Eq, Drop)]
+#[derive(Debug, Drop)]
 pub enum Command {
     /// The cursor becomes this number of tics, 0 to 1,000,000.
     Seek(u32),
@@ -20,10 +22,24 @@ pub enum Command {
     Cut,
     /// The tic before the cursor is put this many times, 1 to 1,000,000.
     Repeat(u32),
+    /// The world at the cursor is shown: the player's place, momentum and angle, and the random index.
+    Show,
+    /// This sector of the world at the cursor is shown.
+    ShowSector(u16),
+    /// The keys held in the world at the cursor are shown.
+    ShowKeys,
+    /// The player's body in the world at the cursor is shown.
+    ShowHealth,
+    /// A target of the search that a later `Go` carries out. It stands here so that its name is judged at its line, and
+    /// does nothing.
+    Want(Want),
+    /// The first of these sequences that meets these targets, played on from the cursor, comes in place of the tics
+    /// from the cursor on.
+    Go(Space, Wants),
 }
 
 /// A command, and the number of its line, counted from 1.
-#[derive(Debug, PartialEq, Eq, Drop)]
+#[derive(Debug, Drop)]
 pub struct Entry {
     pub line: u32,
     pub command: Command,

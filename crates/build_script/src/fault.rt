@@ -3,15 +3,15 @@ use std::alloc::{AllocError, AllocFailed};
 /// Why a line of a script is refused.
 #[derive(Clone, Copy, Debug, PartialEq, Eq)]
 pub enum Kind {
-    /// A command that isn't known, or a word too many.
+    /// A word that isn't known at its place, or one too many.
     Word,
     /// A word that isn't spelled as a number.
     Number,
-    /// A number out of its bounds.
+    /// A number out of its bounds, an empty range, a range with more turns than a circle has, or a 17th target.
     Range,
-    /// Too few words.
+    /// Too few words, no search that this line belongs to, or no end of the search that it opens.
     Missing,
-    /// More sequences than a search may have.
+    /// A search of more than 2^40 sequences.
     Space,
 }
 

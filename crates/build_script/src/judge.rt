@@ -1,12 +1,18 @@
-// The commands by their names, each with the words after it, which are judged from left to right.
-ghost use Rattle.std.specs.Prelude.{◌≡◌, ◌≤ℤ◌, pos, negsuc, unsigned_abs, IfOk};
+//! The lines outside a search: the commands by their names, each with the words after it.
+
+ghost use Rattle.std.specs.Prelude.{◌≡◌, ◌≤ℤ◌, ◌≤◌, pos, negsuc, unsigned_abs, Bool, IfOk};
 ghost use Rattle.lmp_codec.specs.Turns.{turn_of};
 ghost use Rattle.lmp_codec.specs.Tics.{tic_of, HoldsTurn};
-ghost use Rattle.build_script.specs.Commands.{Reads, next_number, complete, turn_bounds, tic_in, place_in, count_in, name_of, command_of, HoldsTicOf};
+ghost use Rattle.build_script.specs.Words.{name_of};
+ghost use Rattle.build_script.specs.Steps.{Reads, next_number, turn_bounds};
+ghost use Rattle.build_script.specs.Commands.{tic_in, place_in, count_in, depth_in, shown_in, is_edit, known_in, command_of, is_comment, outside, HoldsTicOf, IsSoundOutside};
+ghost use Rattle.build_script.specs.Text.{words};
 
 use crate::commands::Command;
 use crate::fault::Kind;
-use crate::numbers::{Bounds, number_within};
+use crate::names::{Form, Name, form_of, name_of};
+use crate::numbers::Bounds;
+use crate::steps::{complete, next_number, number_in};
 use crate::text::Words;
 use lmp_codec::{Tic, turn_of};
 
@@ -18,12 +24,12 @@ const PLACE: Bounds = Bounds {
     greatest: MOST_TICS,
 };
 
-const FORWARD: Bounds = Bounds {
+pub const FORWARD: Bounds = Bounds {
     least: -127,
     greatest: 127,
 };
 
-const SIDE: Bounds = Bounds {
+pub const SIDE: Bounds = Bounds {
     least: -128,
     greatest: 127,
 };
@@ -48,25 +54,29 @@ const COUNT: Bounds = Bounds {
     greatest: MOST_TICS,
 };
 
-/// The number that the next word spells.
-fn next_number(words: &mut Words, bounds: Bounds) -> Result<i64, Kind>
-    ensures value { Reads result words.new (next_number bounds words.old) }
-    ensures within { IfOk result (λ number. (bounds.least ≤ℤ number) × (number ≤ℤ bounds.greatest)) }
-{
-    let Some(word) = words.next() else {
-        return Err(Kind::Missing);
-    };
-    number_within(word, bounds)
+const DEPTH: Bounds = Bounds {
+    least: 1,
+    greatest: 35,
+};
+
+/// What a line outside a search says.
+#[derive(Drop)]
+pub enum Outside {
+    /// It has no words, or is a comment.
+    Nothing,
+    /// This command.
+    Does(Command),
+    /// A search of so many tics is open from here on.
+    Opens(u32),
 }
 
-/// Nothing may follow the last word that a command needs.
-fn complete(mut words: Words) -> Result<(), Kind>
-    ensures { result ≡ complete tt words.entry }
+/// The bounds of a turn, in a long or a short demo.
+pub fn turn_bounds(long: bool) -> Bounds
+    ensures bounds { result ≡ turn_bounds long }
+    ensures least { negsuc 32767 ≤ℤ result.least }
+    ensures greatest { result.greatest ≤ℤ pos 65535 }
 {
-    match words.next() {
-        None => Ok(()),
-        Some(_) => Err(Kind::Word),
-    }
+    if long { LONG_TURN } else { TURN }
 }
 
 /// The number that the next word spells, and that says a turn.
@@ -133,36 +143,66 @@ fn count_in(mut words: Words) -> Result<u32, Kind>
     Ok(count as u32)
 }
 
-/// A command's name.
-#[derive(Clone, Copy)]
-pub enum Name {
-    Seek,
-    Put,
-    Insert,
-    Delete,
-    Cut,
-    Repeat,
+/// How many tics a search has.
+fn depth_in(mut words: Words) -> Result<u32, Kind>
+    ensures depth { result ≡ depth_in words.entry }
+    ensures within { IfOk result (λ depth. (1 ≤ depth) × (depth ≤ 35)) }
+{
+    let depth = next_number(&mut words, DEPTH)?;
+    complete(words)?;
+    Ok(depth as u32)
 }
 
-/// The name that a word is.
-pub fn name_of(word: &[u8]) -> Option<Name>
-    ensures { result ≡ name_of word.now }
+/// What is shown.
+fn shown_in(mut words: Words) -> Result<Command, Kind>
+    ensures shown { result ≡ shown_in words.entry }
+    ensures held { (long : Bool) → IfOk result (HoldsTicOf long) }
 {
-    match word {
-        b"seek" => Some(Name::Seek),
-        b"put" => Some(Name::Put),
-        b"insert" => Some(Name::Insert),
-        b"delete" => Some(Name::Delete),
-        b"cut" => Some(Name::Cut),
-        b"repeat" => Some(Name::Repeat),
-        _ => None,
+    let Some(word) = words.next() else {
+        return Ok(Command::Show);
+    };
+    let Some(form) = form_of(word) else {
+        return Err(Kind::Word);
+    };
+    match form {
+        Form::Sector => Ok(Command::ShowSector(number_in(words)?)),
+        Form::Keys => {
+            complete(words)?;
+            Ok(Command::ShowKeys)
+        }
+        Form::Health => {
+            complete(words)?;
+            Ok(Command::ShowHealth)
+        }
     }
 }
 
-/// The command of this name, with the words after it, for a long or a short demo.
-pub fn command_of(name: Name, words: Words, long: bool) -> Result<Command, Kind>
+/// Whether a script without worlds knows the name.
+fn is_edit(name: Name) -> bool
+    ensures { result ≡ is_edit name }
+{
+    match name {
+        Name::Seek | Name::Put | Name::Insert | Name::Delete | Name::Cut | Name::Repeat => true,
+        Name::Show | Name::Brute | Name::Range | Name::Want | Name::Go => false,
+    }
+}
+
+/// The name that a word is, if a script with or without worlds knows it.
+fn known_name(word: &[u8], worlds: bool) -> Option<Name>
+    ensures { result ≡ known_in worlds (name_of word.now) }
+{
+    let name = name_of(word)?;
+    if worlds || is_edit(name) {
+        Some(name)
+    } else {
+        None
+    }
+}
+
+/// What the name says with the words after it, for a long or a short demo.
+fn command_of(name: Name, words: Words, long: bool) -> Result<Outside, Kind>
     ensures command { result ≡ command_of long name words.entry }
-    ensures held { IfOk result (HoldsTicOf long) }
+    ensures sound { IfOk result (IsSoundOutside long) }
 {
     let command = match name {
         Name::Seek => Command::Seek(place_in(words)?),
@@ -177,6 +217,34 @@ pub fn command_of(name: Name, words: Words, long: bool) -> Result<Command, Kind>
             Command::Cut
         }
         Name::Repeat => Command::Repeat(count_in(words)?),
+        Name::Show => shown_in(words)?,
+        Name::Brute => return Ok(Outside::Opens(depth_in(words)?)),
+        Name::Range | Name::Want | Name::Go => return Err(Kind::Missing),
     };
-    Ok(command)
+    Ok(Outside::Does(command))
+}
+
+/// Whether a line that begins with this word is a comment.
+pub fn is_comment(word: &[u8]) -> bool
+    ensures { result ≡ is_comment word.now }
+{
+    word.starts_with(b"#")
+}
+
+/// What a line outside a search says.
+pub fn said_outside(line: &[u8], worlds: bool, long: bool) -> Result<Outside, Kind>
+    ensures said { result ≡ outside worlds long (words line.now) }
+    ensures sound { IfOk result (IsSoundOutside long) }
+{
+    let mut words = Words::new(line);
+    let Some(word) = words.next() else {
+        return Ok(Outside::Nothing);
+    };
+    if is_comment(word) {
+        return Ok(Outside::Nothing);
+    }
+    let Some(name) = known_name(word, worlds) else {
+        return Err(Kind::Word);
+    };
+    command_of(name, words, long)
 }

@@ -2,7 +2,8 @@
 ghost use Rattle.std.specs.Prelude.{◌≡◌, ◌≤ℤ◌, IfOk, Some, None, if◌then◌else◌};
 ghost use Rattle.std.specs.List.{list_all};
 ghost use Rattle.std.specs.Char.{is_ascii_digit};
-ghost use Rattle.build_script.specs.Numbers.{digits_in, in_bounds, is_number, number_of, number_within};
+ghost use Rattle.build_script.specs.Numbers.{digits_in, in_bounds, is_number, number_of, number_within, units_within, value_within};
+ghost use Rattle.build_script.specs.Steps.{value_bounds};
 
 use crate::fault::Kind;
 use std::str;
@@ -64,5 +65,38 @@ pub fn number_within(word: &[u8], bounds: Bounds) -> Result<i64, Kind>
     match number_of(word) {
         Some(number) => in_bounds(number, bounds),
         None => Err(Kind::Number),
+    }
+}
+
+/// The least and the greatest value of a target.
+const VALUE: Bounds = Bounds {
+    least: -(1 << 31),
+    greatest: (1 << 32) - 1,
+};
+
+/// A value of one map unit.
+const UNIT: i64 = 65_536;
+
+/// The least and the greatest number of map units whose value is one of a target.
+const UNITS: Bounds = Bounds {
+    least: -32_768,
+    greatest: 65_535,
+};
+
+/// The value of so many map units.
+fn units_value(word: &[u8]) -> Result<i64, Kind>
+    ensures { result ≡ units_within value_bounds word.now }
+{
+    let units = number_within(word, UNITS)?;
+    Ok(units * UNIT)
+}
+
+/// The value of a target that a word spells: a number, or one of map units where a `u` follows it.
+pub fn target_value(word: &[u8]) -> Result<i64, Kind>
+    ensures { result ≡ value_within value_bounds word.now }
+{
+    match word.strip_suffix(b"u") {
+        Some(units) => units_value(units),
+        None => number_within(word, VALUE),
     }
 }

@@ -1,6 +1,6 @@
 use Rattle.std.proofs.Common.{◌≡◌, refl, rules, codes, arith}
 use Rattle.std.proofs.lemmas.Slice.Eq.{text_from_reads}
-use Rattle.build_script.proofs.judge.name_of.Goals as goal
+use Rattle.build_script.proofs.names.name_of.Goals as goal
 
 pub returns-in-insert : goal.returns-in-insert
 returns-in-insert c =
