@@ -105,3 +105,9 @@ edited_holds long (script.Repeat count) parts new is tic all =
     let copied = copies_hold (HoldsTurn long) parts.before (length parts.before - 1) count (last_of parts.before) refl both.before in
     joined (HoldsTurn long) _ new (done_after _ _ Before TooLong _ new is)
     (All-append (HoldsTurn long) parts.before (copies count (last_of parts.before)) both.before copied) (All-drop (HoldsTurn long) count parts.after both.after)
+edited_holds long script.Show parts new is tic all = subst (λ (p : Parts). HoldsTurns long (all_tics p)) (done_is false TooLong parts new is) all
+edited_holds long (script.ShowSector sector) parts new is tic all = subst (λ (p : Parts). HoldsTurns long (all_tics p)) (done_is false TooLong parts new is) all
+edited_holds long script.ShowKeys parts new is tic all = subst (λ (p : Parts). HoldsTurns long (all_tics p)) (done_is false TooLong parts new is) all
+edited_holds long script.ShowHealth parts new is tic all = subst (λ (p : Parts). HoldsTurns long (all_tics p)) (done_is false TooLong parts new is) all
+edited_holds long (script.Want want) parts new is tic all = subst (λ (p : Parts). HoldsTurns long (all_tics p)) (done_is false TooLong parts new is) all
+edited_holds long (script.Go ranges wants) parts new is tic all = subst (λ (p : Parts). HoldsTurns long (all_tics p)) (done_is false TooLong parts new is) all

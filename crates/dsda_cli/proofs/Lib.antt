@@ -3,6 +3,7 @@ pub mod TakeLemmas
 pub mod MeaningLemmas
 pub mod EndLemmas
 pub mod DemoLemmas
+pub mod StartLemmas
 pub mod EditLemmas
 pub mod JudgingLemmas
 pub mod OneAnswer

@@ -5,7 +5,7 @@ use Rattle.fixed_angle.proofs.Order.{one_outcome}
 use Rattle.doom_edge.specs.Devices.{Files}
 use Rattle.dsda_cli.specs.Commands.{inputs_of}
 use Rattle.dsda_cli.specs.Judging.{Judgement, exactly, judged, Then, goes_on, ends}
-use Rattle.dsda_cli.specs.Meaning.{as_demo, scripted, edited, level_in, levelled, text_at, worked, worked_unless, too_large, answer_of, Outcome, Means, misused, unheld, answered}
+use Rattle.dsda_cli.specs.Meaning.{as_demo, scripted, edited, level_in, begun, reported, levelled, text_at, worked, worked_unless, too_large, answer_of, Outcome, Means, misused, unheld, answered}
 use Rattle.dsda_cli.specs.declared.command.Command.{Command}
 use Rattle.dsda_cli.specs.declared.command.Command.TheVariants as command
 use Rattle.dsda_cli.specs.declared.command.Input.{Input}
@@ -18,7 +18,8 @@ use Rattle.lmp_codec.specs.declared.whole.Demo.{Demo}
 use Rattle.lmp_codec.specs.declared.fault.DemoFault.{DemoFault}
 use Rattle.wad_lumps.specs.Directory.{file_conditions}
 use Rattle.wad_lumps.specs.Map.{map_conditions, IsMap}
-use Rattle.fixed_angle.specs.TableFile.{table_conditions}
+use Rattle.fixed_angle.specs.Tables.{Tables}
+use Rattle.fixed_angle.specs.TableFile.{table_conditions, tables_of}
 use Rattle.dsda_cli.specs.LevelReport.{episode_of, map_of}
 use Rattle.wad_lumps.specs.declared.map.MapSpans.{MapSpans}
 use Rattle.map_geometry.specs.Lists.{Lists}
@@ -103,10 +104,18 @@ one_level_in one_map wad header = one_then _ _ (one_judged (map_conditions wad (
     let same = one_map wad (episode_of header) (map_of header) found other is is' in
     same_level wad found other a b same.1 same.2 same.3 first second))
 
+one_begun : (level : Lists) (tables : Tables) (header : List ℕ) → IsOne (begun level tables header)
+unfolding begun
+one_begun level tables header = one_exactly _
+
+one_reported : (level : Lists) (tables : Tables) (header : List ℕ) → IsOne (reported level tables header)
+unfolding reported
+one_reported level tables header = one_then _ _ (one_begun level tables header) (λ world. one_exactly _)
+
 one_levelled : OneMap → OneVerdict → (wad tables demo : List ℕ) → IsOne (levelled wad tables demo)
 unfolding levelled
 one_levelled one_map verdict wad tables demo =
-    one_then _ _ (one_judged (file_conditions wad) input_fault.Wad) (λ _. one_then _ _ (one_judged (table_conditions tables) input_fault.Tables) (λ _. one_then _ _ (one_demo verdict demo) (λ played. one_then _ _ (one_level_in one_map wad played.header) (λ level. one_exactly _))))
+    one_then _ _ (one_judged (file_conditions wad) input_fault.Wad) (λ _. one_then _ _ (one_judged (table_conditions tables) input_fault.Tables) (λ _. one_then _ _ (one_demo verdict demo) (λ played. one_then _ _ (one_level_in one_map wad played.header) (λ level. one_reported level (tables_of tables) played.header))))
 
 one_worked : OneMap → OneVerdict → (command : Command) (texts : List (List ℕ)) → IsOne (worked command texts)
 one_worked one_map verdict command.Edit texts = one_edited verdict (text_at texts 0) (text_at texts 1)

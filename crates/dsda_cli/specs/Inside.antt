@@ -18,6 +18,8 @@ use Rattle.fixed_angle.specs.declared.fault.TabFault.{TabFault}
 use Rattle.fixed_angle.specs.declared.fault.TabFault.TheVariants as tables_fault
 use Rattle.map_geometry.specs.declared.fault.LevelFault.{LevelFault}
 use Rattle.map_geometry.specs.declared.fault.LevelFault.TheVariants as level_fault
+use Rattle.level_start.specs.declared.fault.StartFault.{StartFault}
+use Rattle.level_start.specs.declared.fault.StartFault.TheVariants as start_fault
 use Rattle.lmp_codec.specs.declared.fault.DemoFault.{DemoFault}
 use Rattle.lmp_codec.specs.declared.fault.DemoFault.TheVariants as demo_fault
 use Rattle.build_script.specs.declared.fault.ScriptFault.{ScriptFault}
@@ -55,6 +57,11 @@ stop_of_tables fault = stop.Refused (input_fault.Tables fault)
 abbrev pub stop_of_level : LevelFault → Stop
 stop_of_level level_fault.Memory = stop.Memory
 stop_of_level fault = stop.Refused (input_fault.Level fault)
+
+-- why a level can't be started, as an end of the work
+abbrev pub stop_of_start : StartFault → Stop
+stop_of_start start_fault.Memory = stop.Memory
+stop_of_start fault = stop.Refused (input_fault.Start fault)
 
 -- a demo's fault as an end of the work
 abbrev pub stop_of_demo : DemoFault → Stop

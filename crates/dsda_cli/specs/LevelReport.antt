@@ -1,7 +1,8 @@
--- What `level` reports: the name of the level that a demo plays, and how much there is of each kind.
+-- What `level` reports: the name of the level that a demo plays, how much there is of each kind, and the start.
 use Rattle.std.specs.Prelude.{ℕ, ◌/◌, ◌%◌, Bool, true, false, List, [], ◌∷◌, ◌++◌, length, codes, slice_index}
-use Rattle.std.specs.Fmt.{decimal}
+use Rattle.std.specs.Fmt.{decimal, signed_decimal}
 use Rattle.map_geometry.specs.Lists.{Lists}
+use Rattle.cow_world.specs.Flat.{Gridded, parts, player_thing}
 
 -- the episode and the map that a demo's header names
 abbrev pub episode_of : List ℕ → ℕ
@@ -29,6 +30,15 @@ counts_text l =
     ++ codes " blocks " ++ decimal l.width
     ++ codes " " ++ decimal l.height
 
--- the report: two lines
-unfoldable pub level_lines : List ℕ → Lists → List ℕ
-level_lines header l = codes "level " ++ level_name header l.episode_form ++ (10 ∷ counts_text l ++ 10 ∷ [])
+-- where the player stands, in fixed point, the way it looks, in angle units, and the random index
+unfoldable pub start_line : Gridded → List ℕ
+start_line world =
+    codes "start x " ++ signed_decimal (player_thing world).x
+    ++ codes " y " ++ signed_decimal (player_thing world).y
+    ++ codes " z " ++ signed_decimal (player_thing world).z
+    ++ codes " angle " ++ decimal (parts world).player.angle
+    ++ codes " rng " ++ decimal (parts world).rng
+
+-- the report: three lines
+unfoldable pub level_lines : List ℕ → Lists → Gridded → List ℕ
+level_lines header l world = codes "level " ++ level_name header l.episode_form ++ (10 ∷ counts_text l ++ (10 ∷ start_line world ++ 10 ∷ []))

@@ -8,6 +8,9 @@ pub use Rattle.wad_lumps.specs.Map
 pub use Rattle.fixed_angle.specs.TableFile
 pub use Rattle.map_load.specs.Load
 pub use Rattle.map_load.specs.Spelled
+pub use Rattle.level_start.specs.Start
+pub use Rattle.cow_world.specs.Flat
+pub use Rattle.cow_world.specs.Fits
 pub use Rattle.build_script.specs.Script
 pub use Rattle.build_edits.specs.Parts
 pub use Rattle.build_edits.specs.Edits

@@ -12,10 +12,14 @@ use Rattle.lmp_codec.specs.declared.whole.Demo.{Demo}
 use Rattle.lmp_codec.specs.declared.fault.DemoFault.{DemoFault}
 use Rattle.wad_lumps.specs.Directory.{file_conditions}
 use Rattle.wad_lumps.specs.Map.{map_conditions, IsMap}
-use Rattle.fixed_angle.specs.TableFile.{table_conditions}
+use Rattle.fixed_angle.specs.Tables.{Tables}
+use Rattle.fixed_angle.specs.TableFile.{table_conditions, tables_of}
 use Rattle.map_geometry.specs.Lists.{Lists}
 use Rattle.map_load.specs.Load.{level_conditions}
 use Rattle.map_load.specs.Spelled.{spelled}
+use Rattle.cow_world.specs.Flat.{Gridded}
+use Rattle.level_start.specs.Start.{start_fault, start_of}
+use Rattle.level_start.specs.declared.fault.StartFault.{StartFault}
 use Rattle.build_script.specs.Script.{script_of}
 use Rattle.build_script.specs.declared.fault.Kind.{Kind}
 use Rattle.build_script.specs.declared.commands.Entry.{Entry}
@@ -68,6 +72,13 @@ edited_by (script.Insert tic) parts = insert_outcome tic parts
 edited_by script.Delete parts = delete_outcome parts
 edited_by script.Cut parts = cut_outcome parts
 edited_by (script.Repeat count) parts = repeat_outcome count parts
+-- these are no words of a script without worlds
+edited_by script.Show parts = Ok parts
+edited_by (script.ShowSector sector) parts = Ok parts
+edited_by script.ShowKeys parts = Ok parts
+edited_by script.ShowHealth parts = Ok parts
+edited_by (script.Want want) parts = Ok parts
+edited_by (script.Go ranges wants) parts = Ok parts
 
 -- what a command of a line comes to; its fault is the line's
 abbrev pub at_line : ℕ → Result Parts EditFault → Result Parts InputFault
@@ -105,14 +116,29 @@ level_in wad header = do
   judged (level_conditions wad found.spans.items found.other_form found.episode_form) input_fault.Level
   exactly (Ok (spelled wad found.spans.items found.episode_form))
 
--- `level`: what the level is made of. The tables serve its play, and are judged with it.
+-- the world with which a level starts, unless something is wrong with its things
+abbrev pub started : Option StartFault → Gridded → Result Gridded InputFault
+started None world = Ok world
+started (Some fault) world = Err (input_fault.Start fault)
+
+-- the start of a level, at the skill of a demo's header
+unfoldable pub begun : Lists → Tables → List ℕ → Judgement Gridded
+begun level tables header = exactly (started (start_fault level tables header) (start_of level tables header))
+
+-- the report of a level, which tells its start
+unfoldable pub reported : Lists → Tables → List ℕ → Judgement Work
+reported level tables header = do
+  world ← begun level tables header
+  exactly (Ok (unplayed (level_lines header level world) None))
+
+-- `level`: what the level is made of, and its start
 unfoldable pub levelled : List ℕ → List ℕ → List ℕ → Judgement Work
 levelled wad tables demo = do
   judged (file_conditions wad) input_fault.Wad
   judged (table_conditions tables) input_fault.Tables
   played ← as_demo demo
   level ← level_in wad played.header
-  exactly (Ok (unplayed (level_lines played.header level) None))
+  reported level (tables_of tables) played.header
 
 -- the text of the input at a place
 abbrev pub text_at : List (List ℕ) → ℕ → List ℕ

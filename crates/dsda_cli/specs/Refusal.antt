@@ -10,6 +10,9 @@ use Rattle.fixed_angle.specs.declared.fault.TabFault.TheVariants as tables_fault
 use Rattle.map_geometry.specs.declared.fault.LevelFault.{LevelFault}
 use Rattle.map_geometry.specs.declared.fault.LevelFault.TheVariants.{MapForm, NodesKind, LevelRef, NodeLoop, BlockShape}
 use Rattle.map_geometry.specs.declared.fault.LevelFault.TheVariants as level_fault
+use Rattle.level_start.specs.declared.fault.StartFault.{StartFault}
+use Rattle.level_start.specs.declared.fault.StartFault.TheVariants.{NoStart, Voodoo, ThingUnknown, Doom2Thing, Spitter}
+use Rattle.level_start.specs.declared.fault.StartFault.TheVariants as start_fault
 use Rattle.lmp_codec.specs.declared.fault.DemoFault.{DemoFault}
 use Rattle.lmp_codec.specs.declared.fault.DemoFault.TheVariants.{DemoVersion, DemoHead, DemoCut, DemoLong}
 use Rattle.lmp_codec.specs.declared.fault.DemoFault.TheVariants as demo_fault
@@ -19,7 +22,7 @@ use Rattle.build_edits.specs.declared.fault.EditFault.{EditFault}
 use Rattle.build_edits.specs.declared.fault.EditFault.TheVariants.{Place, Before, TooLong}
 use Rattle.build_edits.specs.declared.fault.EditFault.TheVariants as edit_fault
 use Rattle.dsda_cli.specs.declared.fault.InputFault.{InputFault}
-use Rattle.dsda_cli.specs.declared.fault.InputFault.TheVariants.{Large, Wad, Tables, Demo, Script, Level, Edit}
+use Rattle.dsda_cli.specs.declared.fault.InputFault.TheVariants.{Large, Wad, Tables, Demo, Script, Level, Start, Edit}
 
 -- what is said of a WAD and of a map in it (of want of memory nothing ever is)
 abbrev pub wad_text : WadFault → List ℕ
@@ -44,6 +47,15 @@ level_text (LevelRef lump entry) = codes "level lump " ++ decimal lump ++ (codes
 level_text NodeLoop = codes "node loop"
 level_text BlockShape = codes "block shape"
 level_text level_fault.Memory = []
+
+-- what is said of a level that can't be started (of want of memory nothing ever is)
+abbrev pub start_text : StartFault → List ℕ
+start_text NoStart = codes "no start"
+start_text Voodoo = codes "voodoo"
+start_text (ThingUnknown place number) = codes "thing " ++ decimal place ++ (codes " number " ++ decimal number)
+start_text (Doom2Thing place) = codes "doom2 thing " ++ decimal place
+start_text (Spitter place) = codes "spitter " ++ decimal place
+start_text start_fault.Memory = []
 
 -- what is said of a demo (of want of memory nothing ever is)
 abbrev pub demo_text : DemoFault → List ℕ
@@ -76,6 +88,7 @@ text_of (Tables fault) = tables_text fault
 text_of (Demo fault) = demo_text fault
 text_of (Script line kind) = codes "line " ++ decimal line ++ codes ": " ++ kind_text kind
 text_of (Level fault) = level_text fault
+text_of (Start fault) = start_text fault
 text_of (Edit line fault) = codes "line " ++ decimal line ++ codes ": " ++ edit_text fault
 
 -- the line that stands in place of the report

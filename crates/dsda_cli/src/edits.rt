@@ -62,6 +62,13 @@ fn edit(command: &Command, tape: &mut Tape) -> Result<(), EditFault>
         Command::Delete => tape.delete(),
         Command::Cut => tape.cut(),
         Command::Repeat(count) => tape.repeat(*count),
+        // These are no words of a script without worlds.
+        Command::Show => Ok(()),
+        Command::ShowSector(_) => Ok(()),
+        Command::ShowKeys => Ok(()),
+        Command::ShowHealth => Ok(()),
+        Command::Want(_) => Ok(()),
+        Command::Go(_, _) => Ok(()),
     }
 }
 

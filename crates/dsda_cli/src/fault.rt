@@ -3,6 +3,7 @@ ghost use Rattle.std.specs.Prelude.{◌≡◌};
 use build_edits::EditFault;
 use build_script::Kind;
 use fixed_angle::TabFault;
+use level_start::StartFault;
 use lmp_codec::DemoFault;
 use map_load::LevelFault;
 use std::marker::Model;
@@ -45,6 +46,13 @@ impl MayLackMemory for TabFault {
 impl MayLackMemory for LevelFault {
     ghost use Rattle.std.specs.Prelude.{◌≡◌};
     ghost use Rattle.map_geometry.specs.declared.fault.LevelFault.TheVariants as variants;
+
+    ghost is_memory = { λ fault. fault ≡ variants.Memory };
+}
+
+impl MayLackMemory for StartFault {
+    ghost use Rattle.std.specs.Prelude.{◌≡◌};
+    ghost use Rattle.level_start.specs.declared.fault.StartFault.TheVariants as variants;
 
     ghost is_memory = { λ fault. fault ≡ variants.Memory };
 }
@@ -96,6 +104,8 @@ pub enum InputFault {
     Script(u32, Kind),
     #[error("the level is faulty")]
     Level(Refused<LevelFault>),
+    #[error("the level can't be started")]
+    Start(Refused<StartFault>),
     #[error("an edit is refused")]
     Edit(u32, Refused<EditFault>),
 }

@@ -1,36 +1,54 @@
 // What `level` reports.
-ghost use Rattle.std.specs.Prelude.{◌≡◌, ◌++◌, IfOk, OnOk, string_bytes};
+ghost use Rattle.std.specs.Prelude.{◌≡◌, ◌++◌, ◌<◌, length, IfOk, OnOk, string_bytes};
 ghost use Rattle.std.specs.Fmt.{decimal};
 ghost use Rattle.doom_edge.specs.Costs.{free};
 ghost use Rattle.wad_lumps.specs.Map.{AreSpans, IsMap, map_conditions};
 ghost use Rattle.map_load.specs.Load.{level_conditions};
 ghost use Rattle.map_load.specs.Spelled.{spelled};
+ghost use Rattle.cow_world.specs.Flat.{IsLive, parts};
 ghost use Rattle.dsda_cli.specs.declared.fault.InputFault.TheVariants as input_fault;
 ghost use Rattle.dsda_cli.specs.LevelReport.{episode_of, map_of, level_name, counts_text, level_lines};
 ghost use Rattle.dsda_cli.specs.Judging.{judged};
-ghost use Rattle.dsda_cli.specs.Meaning.{with_cost, level_in, levelled};
+ghost use Rattle.dsda_cli.specs.Meaning.{with_cost, level_in, levelled, reported};
 ghost use Rattle.dsda_cli.specs.Inside.{Gives};
 
+use crate::begins::{begin, start_line};
 use crate::inputs;
 use crate::product::{Product, Stop};
+use cow_world::World;
 use doom_edge::Memory;
+use fixed_angle::PlayTables;
 use lmp_codec::{Demo, Header};
 use map_geometry::Level;
 use map_load::load;
 use std::alloc::{AllocError, Global};
 use wad_lumps::{MapSpans, Wad};
 
-/// What the level that the demo plays is made of. The tables serve its play, and are judged with it.
+/// What the level that the demo plays is made of, and where its player starts.
 #[tactic(auto, unfolding(crate::specs::Meaning::levelled))]
 pub fn level(alloc: Global, wad: Vec<u8>, tables: &[u8], demo: &[u8]) -> Result<Product, Stop>
     ensures { Gives (λ output. with_cost output free) result (levelled wad.items tables.now demo.now) }
 {
     let wad = inputs::wad(wad)?;
-    let _tables = inputs::tables(alloc, tables)?;
+    let tables = inputs::tables(alloc, tables)?;
     let Demo { header, tics: _ } = inputs::demo(alloc, demo)?;
     let level = level_in(alloc, &wad, &header)?;
+    report(alloc, &level, &tables, &header)
+}
+
+/// The report of the level, which tells its start.
+#[tactic(auto, unfolding(crate::specs::Meaning::reported))]
+fn report(
+    alloc: Global,
+    level: &Level,
+    tables: &PlayTables,
+    header: &Header,
+) -> Result<Product, Stop>
+    ensures { Gives (λ output. with_cost output free) result (reported level.now tables.now header.now) }
+{
+    let world = begin(alloc, level, tables, header)?;
     Ok(Product {
-        report: level_lines(alloc, &header, &level)?,
+        report: level_lines(alloc, header, level, &world)?,
         demo: None,
     })
 }
@@ -65,14 +83,22 @@ fn load_level(alloc: Global, wad: &Wad, found: &MapSpans) -> Result<Level, Stop>
     Ok(load(alloc, wad, found)?)
 }
 
-/// The report: the level's name, and how much there is of each kind.
+/// The report: the level's name, how much there is of each kind, and the start.
 #[tactic(auto, unfolding(crate::specs::LevelReport::level_lines))]
-fn level_lines(alloc: Global, header: &Header, level: &Level) -> Result<Vec<u8>, Memory>
-    ensures { IfOk result (λ report. report.items ≡ level_lines header.now level.now) }
+fn level_lines(
+    alloc: Global,
+    header: &Header,
+    level: &Level,
+    world: &World,
+) -> Result<Vec<u8>, Memory>
+    requires live { IsLive world.now }
+    requires there { (parts world.now).player.thing < length (parts world.now).things }
+    ensures { IfOk result (λ report. report.items ≡ level_lines header.now level.now world.now) }
 {
     let name = level_name(alloc, header, level.episode_form())?;
     let counts = counts_text(alloc, level)?;
-    let report = format!(in alloc; "level {name}\n{counts}\n")?;
+    let start = start_line(alloc, world)?;
+    let report = format!(in alloc; "level {name}\n{counts}\n{start}\n")?;
     Ok(report.into_bytes())
 }
 
@@ -111,7 +137,7 @@ fn counts_text(alloc: Global, level: &Level) -> Result<String, AllocError>
 }
 
 /// Appends what is counted, and then the count.
-fn push_count(text: &mut String, counted: &str, count: usize) -> Result<(), AllocError>
+pub fn push_count(text: &mut String, counted: &str, count: usize) -> Result<(), AllocError>
     ensures { OnOk result (string_bytes text.new ≡ string_bytes text.old ++ counted.now ++ decimal count) }
 {
     text.push_str(counted)?;

@@ -1,11 +1,12 @@
 //! The program's commands, each over a shelf of files and a sink for the report.
 //!
 //! `edit DEMO SCRIPT OUT` reads a demo and a script, carries the script's commands out on the demo's tics, and puts the
-//! demo that they leave. `level WAD TABLES DEMO` reads the level that a demo plays, and reports its name and how much
-//! there is of each kind. A command line comes to one outcome over the files that it names; `run` ends as that, or by a
+//! demo that they leave. `level WAD TABLES DEMO` starts the level that a demo plays, and reports its name, how much there
+//! is of each kind, and where the player starts. A command line comes to one outcome over the files that it names; `run` ends as that, or by a
 //! device's fault or want of memory.
 #![tactic(auto)]
 
+mod begins;
 mod command;
 mod deliver;
 mod edits;

@@ -5,6 +5,7 @@ use crate::fault::{InputFault, Refused};
 use build_script::ScriptFault;
 use doom_edge::Memory;
 use fixed_angle::TabFault;
+use level_start::StartFault;
 use lmp_codec::DemoFault;
 use map_load::LevelFault;
 use std::marker::Model;
@@ -101,6 +102,20 @@ impl From<LevelFault> for Stop {
         match fault {
             LevelFault::Memory => Stop::Memory,
             refused => Stop::Refused(InputFault::Level(Refused::new(refused))),
+        }
+    }
+}
+
+impl From<StartFault> for Stop {
+    ghost use Rattle.std.specs.Prelude.{◌≡◌};
+    ghost use Rattle.dsda_cli.specs.Inside.{stop_of_start};
+
+    ghost from_gives = { λ fault stop. stop ≡ stop_of_start fault };
+
+    fn from(fault: StartFault) -> Self {
+        match fault {
+            StartFault::Memory => Stop::Memory,
+            refused => Stop::Refused(InputFault::Start(Refused::new(refused))),
         }
     }
 }

@@ -1,11 +1,12 @@
 ghost use Rattle.std.specs.Prelude.{IfOk, ◌≡◌, string_bytes};
-ghost use Rattle.dsda_cli.specs.Refusal.{text_of, line_of, wad_text, tables_text, level_text, demo_text, kind_text, edit_text};
+ghost use Rattle.dsda_cli.specs.Refusal.{text_of, line_of, wad_text, tables_text, level_text, start_text, demo_text, kind_text, edit_text};
 
 use crate::fault::{InputFault, Refused};
 use build_edits::EditFault;
 use build_script::Kind;
 use doom_edge::Memory;
 use fixed_angle::TabFault;
+use level_start::StartFault;
 use lmp_codec::DemoFault;
 use map_load::LevelFault;
 use std::alloc::{AllocError, Global};
@@ -29,6 +30,7 @@ pub fn refusal_text(alloc: Global, fault: &InputFault) -> Result<Vec<u8>, Memory
             format!(in alloc; "line {line}: {kind}")
         }
         InputFault::Level(refused) => level_text(alloc, refused),
+        InputFault::Start(refused) => start_text(alloc, refused),
         InputFault::Edit(line, refused) => {
             let text = edit_text(alloc, refused)?;
             format!(in alloc; "line {line}: {text}")
@@ -83,6 +85,21 @@ fn level_text(alloc: Global, refused: &Refused<LevelFault>) -> Result<String, Al
         LevelFault::NodeLoop => String::from_str(alloc, "node loop"),
         LevelFault::BlockShape => String::from_str(alloc, "block shape"),
         LevelFault::Memory => unreachable!("want of memory is no refusal"),
+    }
+}
+
+fn start_text(alloc: Global, refused: &Refused<StartFault>) -> Result<String, AllocError>
+    ensures { IfOk result (λ text. string_bytes text ≡ start_text refused.now) }
+{
+    match refused.fault() {
+        StartFault::NoStart => String::from_str(alloc, "no start"),
+        StartFault::Voodoo => String::from_str(alloc, "voodoo"),
+        StartFault::ThingUnknown(place, number) => {
+            format!(in alloc; "thing {place} number {number}")
+        }
+        StartFault::Doom2Thing(place) => format!(in alloc; "doom2 thing {place}"),
+        StartFault::Spitter(place) => format!(in alloc; "spitter {place}"),
+        StartFault::Memory => unreachable!("want of memory is no refusal"),
     }
 }
 

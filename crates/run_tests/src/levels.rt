@@ -1,8 +1,8 @@
 //! `level` over files in memory.
 use crate::over::{Failing, Left, NONE, ran_over};
 use sample_inputs::{
-    PlanKind, PlanNode, demo, demo_of_zeros, header_at, play_tables, play_tables_of, single_room,
-    two_sectors, wad,
+    PlanKind, PlanNode, PlanThing, demo, demo_of_zeros, header_at, play_tables, play_tables_of,
+    single_room, two_sectors, wad,
 };
 use std::alloc::{AllocError, Global};
 use std::process::Abort;
@@ -13,11 +13,13 @@ const LEVEL: [&str; 4] = ["level", "maps.wad", "play.ptab", "in.lmp"];
 
 /// The report of the single room.
 const ROOM_REPORT: &[u8] =
-    b"level E1M1\nthings 1 lines 4 sides 4 vertices 8 segs 1 subsectors 1 nodes 0 sectors 1 blocks 9 9\n";
+    b"level E1M1\nthings 1 lines 4 sides 4 vertices 8 segs 1 subsectors 1 nodes 0 sectors 1 blocks 9 9\nstart x 0 y 0 z 0 angle 0 rng 1\n";
 
 /// The report of two sectors side by side.
 const TWO_SECTORS_REPORT: &[u8] =
-    b"level E1M1\nthings 1 lines 7 sides 8 vertices 14 segs 2 subsectors 2 nodes 1 sectors 2 blocks 9 9\n";
+    b"level E1M1\nthings 1 lines 7 sides 8 vertices 14 segs 2 subsectors 2 nodes 1 sectors 2 blocks 9 9\nstart x 0 y 0 z 0 angle 0 rng 1\n";
+
+const E1M1: &[u8; 8] = b"E1M1\0\0\0\0";
 
 /// How many bytes a table file with one kind has.
 const TABLES_LEN: usize = 49_436;
@@ -99,7 +101,7 @@ fn a_level_is_reported(rt: HostRuntime) -> Result<(), Fail> {
                 &play_tables_of(alloc, &[])?,
                 &demo(alloc, &header_at(3, 7), &[[50, 0, 0, 0]])?,
                 0,
-                b"level MAP07\nthings 1 lines 4 sides 4 vertices 8 segs 1 subsectors 1 nodes 0 sectors 1 blocks 9 9\n",
+                b"level MAP07\nthings 1 lines 4 sides 4 vertices 8 segs 1 subsectors 1 nodes 0 sectors 1 blocks 9 9\nstart x 0 y 0 z 0 angle 0 rng 1\n",
             ),
         ],
     )
@@ -121,7 +123,7 @@ fn sixty_nodes_with_two_equal_children_each_are_a_level(rt: HostRuntime) -> Resu
             &play_tables(alloc)?,
             &demo_of_zeros(alloc, 0)?,
             0,
-            b"level E1M1\nthings 1 lines 4 sides 4 vertices 8 segs 1 subsectors 1 nodes 60 sectors 1 blocks 9 9\n",
+            b"level E1M1\nthings 1 lines 4 sides 4 vertices 8 segs 1 subsectors 1 nodes 60 sectors 1 blocks 9 9\nstart x 0 y 0 z 0 angle 0 rng 1\n",
         )],
     )
 }
@@ -160,6 +162,69 @@ fn the_files_are_judged_in_their_order(rt: HostRuntime) -> Result<(), Fail> {
                 1,
                 b"refused: level lump 2 entry 0\n",
             ),
+        ],
+    )
+}
+
+/// A thing 40 units east of the player of the single room, on every skill.
+fn beside(number: u16) -> PlanThing {
+    PlanThing {
+        number,
+        x: 40,
+        y: 0,
+        angle: 0,
+        options: 7,
+    }
+}
+
+/// The WAD of the single room under a label, with one thing more.
+fn room_with(alloc: Global, label: &[u8; 8], number: u16) -> Result<Vec<u8>, AllocError> {
+    let mut plan = single_room(alloc)?;
+    plan.label = *label;
+    plan.things.push(beside(number))?;
+    wad(alloc, &plan)
+}
+
+#[test]
+fn the_start_is_reported_or_refused(rt: HostRuntime) -> Result<(), Fail> {
+    let alloc = rt.alloc();
+    let tables = play_tables(alloc)?;
+    let empty = demo_of_zeros(alloc, 0)?;
+    let mut deserted = single_room(alloc)?;
+    deserted.things.clear();
+    let key = room_with(alloc, E1M1, 5)?;
+    let two = room_with(alloc, E1M1, 1)?;
+    let unknown = room_with(alloc, E1M1, 7777)?;
+    let later = room_with(alloc, E1M1, 64)?;
+    let cubes = room_with(alloc, b"MAP01\0\0\0", 89)?;
+    expect_reports(
+        &rt,
+        alloc,
+        &[
+            (
+                &key,
+                &tables,
+                &empty,
+                0,
+                b"level E1M1\nthings 2 lines 4 sides 4 vertices 8 segs 1 subsectors 1 nodes 0 sectors 1 blocks 9 9\nstart x 0 y 0 z 0 angle 0 rng 3\n",
+            ),
+            (
+                &wad(alloc, &deserted)?,
+                &tables,
+                &empty,
+                1,
+                b"refused: no start\n",
+            ),
+            (&two, &tables, &empty, 1, b"refused: voodoo\n"),
+            (
+                &unknown,
+                &tables,
+                &empty,
+                1,
+                b"refused: thing 1 number 7777\n",
+            ),
+            (&later, &tables, &empty, 1, b"refused: doom2 thing 1\n"),
+            (&cubes, &tables, &empty, 1, b"refused: spitter 1\n"),
         ],
     )
 }
