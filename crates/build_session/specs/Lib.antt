@@ -1,0 +1,5 @@
+pub mod Lines
+pub mod Session
+pub mod Costs
+pub mod Seen
+pub mod Runs
