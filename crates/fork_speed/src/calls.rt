@@ -4,14 +4,21 @@ ghost use Rattle.cow_world.specs.Flat.{IsLive};
 ghost use Rattle.cow_world.specs.Fits.{FitsLevel};
 
 use anyhow::anyhow;
+use block_walk::{lines_in, near_all};
 use cow_world::{Player, Sector, Thing, Things, World};
 use doom_edge::{Memory, Steps};
 use health_fx::Body;
-use map_geometry::{Level, blocks_of, box_around, widened};
+use map_geometry::{Area, Level, blocks_of, box_around, widened};
 use std::alloc::Global;
 use std::fmt;
 
 const UNIT: i32 = 65536;
+
+/// The player's radius.
+const RADIUS: i32 = 16 * UNIT;
+
+/// The number of the player's start among the things.
+const START: u16 = 1;
 
 #[derive(Clone, Copy)]
 pub enum Call {
@@ -23,6 +30,8 @@ pub enum Call {
     ReadSector,
     Link,
     ThingsIn,
+    LinesIn,
+    NearAll,
 }
 
 impl fmt::Display for Call {
@@ -36,6 +45,8 @@ impl fmt::Display for Call {
             Call::ReadSector => write!(f, "sector"),
             Call::Link => write!(f, "fork, link of the player"),
             Call::ThingsIn => write!(f, "things_in"),
+            Call::LinesIn => write!(f, "lines_in"),
+            Call::NearAll => write!(f, "near_all"),
         }
     }
 }
@@ -55,8 +66,8 @@ fn player(thing: u32) -> Player
     }
 }
 
-/// Pushes and links a thing for each that the map has, the last of which is the player's, and gives the world pages of
-/// its own.
+/// Pushes and links a thing for each that the map has, of which the player's is that of the start, and gives the world
+/// pages of its own.
 pub fn spawned(alloc: Global, level: &Level) -> anyhow::Result<World>
     ensures { IfOk result (FitsLevel level.now) }
 {
@@ -75,7 +86,7 @@ fn spawn_all(alloc: Global, level: &Level) -> Result<World, Memory>
     Ok(world)
 }
 
-/// Pushes and links one thing, which then is the player's.
+/// Pushes and links one thing, which is the player's where it is a start.
 fn spawn(level: &Level, world: &mut World, i: usize, steps: &mut Steps) -> Result<(), Memory>
     requires fits { FitsLevel level.now world.old }
     requires there { i < length level.now.things }
@@ -96,13 +107,15 @@ fn spawn(level: &Level, world: &mut World, i: usize, steps: &mut Steps) -> Resul
     let place = world.thing_count().wrapping_sub(1);
     if place < world.thing_count() {
         world.link(level, place, spot.x, spot.y, steps)?;
-        world.set_player(player(place));
+        if spot.number == START {
+            world.set_player(player(place));
+        }
     }
     Ok(())
 }
 
 impl Call {
-    pub const ALL: [Call; 8] = [
+    pub const ALL: [Call; 10] = [
         Call::Fork,
         Call::WriteThing,
         Call::WritePlayer,
@@ -111,6 +124,8 @@ impl Call {
         Call::ReadSector,
         Call::Link,
         Call::ThingsIn,
+        Call::LinesIn,
+        Call::NearAll,
     ];
 
     /// What so many calls answer, added up.
@@ -140,10 +155,16 @@ impl Call {
     {
         let mut sum = 0u64;
         let mut steps = Steps::new();
+        let mut lines = Vec::new(alloc);
         for i in 0..count {
             let answer = match self {
                 Call::ReadSector => read_sector(level, world, i),
                 Call::ThingsIn => things_in(alloc, level, world)?,
+                Call::LinesIn => {
+                    lines_in(level, &box_of_player(world), &mut lines)?;
+                    lines.len() as u64
+                }
+                Call::NearAll => lines_met(level, &box_of_player(world)),
                 _ => self.on_fork(level, world, &mut steps)?,
             };
             sum = sum.wrapping_add(answer);
@@ -231,17 +252,33 @@ fn read_sector(level: &Level, world: &World, i: u32) -> u64
     u64::from(sector.special)
 }
 
+/// The box of the player: that of its thing where it stands.
+fn box_of_player(world: &World) -> Area
+    requires { IsLive world.now }
+{
+    let place = world.player().thing;
+    if place >= world.thing_count() {
+        return box_around(0, 0, RADIUS);
+    }
+    let thing = world.thing(place);
+    box_around(thing.x, thing.y, RADIUS)
+}
+
 /// How many things stand near the player.
 fn things_in(alloc: Global, level: &Level, world: &World) -> Result<u64, Memory>
     requires { FitsLevel level.now world.now }
 {
-    let place = world.player().thing;
-    if place >= world.thing_count() {
-        return Ok(0);
-    }
-    let thing = world.thing(place);
-    let area = widened(&box_around(thing.x, thing.y, 16 * UNIT));
+    let area = widened(&box_of_player(world));
     let mut things = Things::new(alloc);
     world.things_in(level, &blocks_of(level, &area), &mut things)?;
     Ok(things.len() as u64)
+}
+
+/// How many lines are met in the blocks of an area, a line once for each block.
+fn lines_met(level: &Level, area: &Area) -> u64 {
+    let mut met = 0u64;
+    for _line in near_all(level, &blocks_of(level, area)) {
+        met = met.wrapping_add(1);
+    }
+    met
 }
