@@ -1,17 +1,18 @@
 //! The game on a level.
-ghost use Rattle.std.specs.Prelude.{◌≡◌, ◌<◌, length, IfOk, IfErr, OnOk};
+ghost use Rattle.std.specs.Prelude.{◌≡◌, ◌<◌, length, None, IfOk, IfErr, OnOk};
 ghost use Rattle.cow_world.specs.Flat.{IsLive, parts, sector_at, has_acted};
 ghost use Rattle.level_start.specs.Start.{start_fault, Blames};
 ghost use Rattle.play_step.specs.Doom.{Setup, CanStart, opening_of, PlaysOn};
 ghost use Rattle.play_step.specs.Shown.{shown_of, reading_of};
 ghost use Rattle.play_step.specs.Step.{step_of};
+ghost use Rattle.play_step.specs.Rules.{HasSector, ground_of, vitals_of};
 
 use crate::shown::{read_live, show_live};
 use crate::step::step_live;
 use cow_world::World;
 use doom_edge::{Memory, Steps};
 use fixed_angle::PlayTables;
-use game_trait::{Game, Quantity, Shown};
+use game_trait::{Details, Game, Ground, Quantity, Shown, Vitals};
 use health_fx::Body;
 use level_start::{StartFault, start};
 use lmp_codec::{Header, Tic};
@@ -50,6 +51,7 @@ impl Doom {
         header: Header,
     ) -> Result<Doom, StartFault>
         ensures doom { IfOk result (λ doom. doom ≡ record { level = level; tables = tables; header = header }) }
+        ensures sound { OnOk result (start_fault level tables header ≡ None) }
         ensures fault { IfErr result (Blames (start_fault level tables header)) }
     {
         start(alloc, &level, &tables, &header)?;
@@ -151,6 +153,35 @@ impl Game for Doom {
         match world.halted() {
             Some(_) => false,
             None => world.acted(line),
+        }
+    }
+}
+
+impl Details for Doom {
+    ghost has_sector = { HasSector };
+
+    ghost ground_of = { ground_of };
+
+    ghost vitals_of = { vitals_of };
+
+    fn sector(&self, world: &World, sector: u16) -> Ground {
+        let (floor, ceiling, light) = self.sector(world, u32::from(sector));
+        Ground {
+            floor,
+            ceiling,
+            light,
+        }
+    }
+
+    fn vitals(&self, world: &World) -> Vitals {
+        let body = self.body(world);
+        Vitals {
+            health: body.health,
+            armour: body.armour,
+            kind: body.kind,
+            suit: body.suit,
+            guard: body.guard,
+            react: body.react,
         }
     }
 }
