@@ -42,3 +42,14 @@ push_beside xs place own x beside room = elim (cases_lt place (length xs)) [
       ] in
       set_past (xs ++ x ∷ []) place own none ∙ ap (λ ys. ys ++ x ∷ []) (sym (set_past xs place own past))
 ]
+
+-- the place is still that of a thing after a write, and behind one more
+pub beside_set : (xs : List Thing) (place i : ℕ) (x : Thing) → IsBeside xs place → IsBeside (set xs i x) place
+beside_set xs place i x beside =
+    let long = length-set xs i x in
+    record { few = omega (arith, long, beside.few); there = λ other. omega (arith, long, beside.there other) }
+
+pub beside_push : (xs : List Thing) (place : ℕ) (x : Thing) → IsBeside xs place → length xs + 1 < 2 ^ 32 → IsBeside (xs ++ x ∷ []) place
+beside_push xs place x beside room =
+    let long = length-append xs (x ∷ []) in
+    record { few = omega (arith, long, room); there = λ other. omega (arith, long, beside.there other) }

@@ -19,18 +19,18 @@ use Rattle.cow_world.proofs.Cells.{present_in, none_outside, all_there}
 
 module _ (inside : Inside) (world : Gridded) (seen : world_in inside ≡ world) (live : IsLive world) (kept : IsKept inside) (column row : ℤ) (block : ℕ) (cell : cell_at inside.grid column row ≡ Some block) where
   -- what the link order has of a block, and is present
-  by_fields : filter (is_present inside.things) (block_things block inside.order.order) ≡ filter (λ i. is_present inside.things i && is_in_block inside.grid column row (get_or inside.things i no_thing)) (things_of inside.order.order)
-  by_fields = present_in inside.things inside.grid column row block inside.order.order cell (kept.entries (is_live _ _ _ _ seen live))
+  by_fields : filter (is_present inside.lists.things) (block_things block inside.order.order) ≡ filter (λ i. is_present inside.lists.things i && is_in_block inside.grid column row (get_or inside.lists.things i no_thing)) (things_of inside.order.order)
+  by_fields = present_in inside.lists.things inside.grid column row block inside.order.order cell (kept.entries (is_live _ _ _ _ seen live))
 
-  pub linked_are : filter (is_present inside.things) (block_things block inside.order.order) ≡ linked_in world column row
+  pub linked_are : filter (is_present inside.lists.things) (block_things block inside.order.order) ≡ linked_in world column row
   linked_are = by_fields ∙ linked_by_fields _ _ _ _ seen live column row
 
   pub linked_there : All (λ i. i < length (parts world).things) (linked_in world column row)
   linked_there =
       let There : ℕ → Type 0 = λ i. i < length (parts world).things in
       let things = ap (λ (l : Live). l.things) (parts_are _ _ _ _ seen live) in
-      let all = all_there inside.things inside.grid inside.order.order
-      (λ i. is_present inside.things i && is_in_block inside.grid column row (get_or inside.things i no_thing))
+      let all = all_there inside.lists.things inside.grid inside.order.order
+      (λ i. is_present inside.lists.things i && is_in_block inside.grid column row (get_or inside.lists.things i no_thing))
       (kept.entries (is_live _ _ _ _ seen live)) in
       All-same There _ _ (sym (linked_by_fields _ _ _ _ seen live column row)) (rw (← things) all)
 

@@ -89,9 +89,9 @@ kept-room world order same blocks kept = record {
 }
 
 -- a thing elsewhere that is linked anew
-pub kept-link : (world : Inside) (i : ℕ) (x y : ℤ) (to : Thing) (order : Links) → world.halted ≡ None → i < length world.things → to.x ≡ x → to.y ≡ y → order.order ≡ linked_first i (cell_under world.grid x y) world.order.order → order.blocks ≡ world.order.blocks → IsKept world → IsKept (record world { things = set world.things i to; order = order })
+pub kept-link : (world : Inside) (i : ℕ) (x y : ℤ) (to : Thing) (order : Links) → world.halted ≡ None → i < length world.lists.things → to.x ≡ x → to.y ≡ y → order.order ≡ linked_first i (cell_under world.grid x y) world.order.order → order.blocks ≡ world.order.blocks → IsKept world → IsKept (record world { lists = record world.lists { things = set world.lists.things i to }; order = order })
 kept-link world i x y to order live at is_x is_y first blocks kept =
-    let same = length-set world.things i to in
+    let same = length-set world.lists.things i to in
     record {
       movers = kept.movers;
       thinkers = kept.thinkers;
@@ -101,7 +101,7 @@ kept-link world i x y to order live at is_x is_y first blocks kept =
       few_sectors = kept.few_sectors;
       few_things = rw same kept.few_things;
       few_thinkers = kept.few_thinkers;
-      entries = λ _. rw first (entries-link world.things i x y to world.grid world.order.order at is_x is_y (kept.entries live));
+      entries = λ _. rw first (entries-link world.lists.things i x y to world.grid world.order.order at is_x is_y (kept.entries live));
       blocks = λ _. blocks ∙ kept.blocks live;
       no_sectors = kept.no_sectors;
       no_specials = kept.no_specials;
@@ -110,7 +110,7 @@ kept-link world i x y to order live at is_x is_y first blocks kept =
     }
 
 -- the world that they show
-pub shows-link : (world : Inside) (i : ℕ) (x y : ℤ) (to : Thing) (order : Links) (seen : Gridded) → world_in world ≡ seen → IsLive seen → to ≡ record (get_or world.things i no_thing) { x = x; y = y } → order.order ≡ linked_first i (cell_under world.grid x y) world.order.order → world_in (record world { things = set world.things i to; order = order }) ≡ link seen i x y
+pub shows-link : (world : Inside) (i : ℕ) (x y : ℤ) (to : Thing) (order : Links) (seen : Gridded) → world_in world ≡ seen → IsLive seen → to ≡ record (get_or world.lists.things i no_thing) { x = x; y = y } → order.order ≡ linked_first i (cell_under world.grid x y) world.order.order → world_in (record world { lists = record world.lists { things = set world.lists.things i to }; order = order }) ≡ link seen i x y
 shows-link world i x y to order seen same live moved first =
     let links : things_of order.order ≡ first_in i (things_of world.order.order) = ap things_of first ∙ things_of-linked_first i (cell_under world.grid x y) world.order.order in
     let new : Live → Live = λ l. record l { things = set l.things i (record (get_or l.things i no_thing) { x = x; y = y }); links = first_in i l.links } in

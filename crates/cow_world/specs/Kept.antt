@@ -17,11 +17,11 @@ things_of order = map (λ (entry : Linked). entry.thing) order
 
 abbrev pub lists_in : Inside → Live
 lists_in world = record {
-  sectors = world.sectors;
-  specials = world.specials;
-  things = world.things;
+  sectors = world.lists.sectors;
+  specials = world.lists.specials;
+  things = world.lists.things;
   links = things_of world.order.order;
-  thinkers = world.thinkers;
+  thinkers = world.lists.thinkers;
   acted = world.acted.items;
   player = world.player;
   rng = world.rng;
@@ -47,17 +47,17 @@ pub record IsEntry (things : List Thing) (grid : Grid) (entry : Linked) : Type 0
 -- fit their type. A halted world has no pages, and nothing
 -- is said of its link order.
 pub record IsKept (world : Inside) : Type 0 where
-  pub movers : All (λ (sector : Sector). IfSome sector.mover (λ mover. mover < length world.thinkers)) world.sectors
-  pub thinkers : All (λ thinker. IfSome (sector_of thinker) (λ sector. sector < length world.sectors)) world.thinkers
-  pub player : world.player.thing ≤ length world.things - 1
-  pub acted : All (λ line. line < length world.specials) world.acted.items
+  pub movers : All (λ (sector : Sector). IfSome sector.mover (λ mover. mover < length world.lists.thinkers)) world.lists.sectors
+  pub thinkers : All (λ thinker. IfSome (sector_of thinker) (λ sector. sector < length world.lists.sectors)) world.lists.thinkers
+  pub player : world.player.thing ≤ length world.lists.things - 1
+  pub acted : All (λ line. line < length world.lists.specials) world.acted.items
   pub exited : world.exited ≤ 2
-  pub few_sectors : length world.sectors < 2 ^ 32
-  pub few_things : length world.things < 2 ^ 32
-  pub few_thinkers : length world.thinkers < 2 ^ 32
-  pub entries : world.halted ≡ None → All (IsEntry world.things world.grid) world.order.order
+  pub few_sectors : length world.lists.sectors < 2 ^ 32
+  pub few_things : length world.lists.things < 2 ^ 32
+  pub few_thinkers : length world.lists.thinkers < 2 ^ 32
+  pub entries : world.halted ≡ None → All (IsEntry world.lists.things world.grid) world.order.order
   pub blocks : world.halted ≡ None → world.order.blocks ≡ world.grid.width * world.grid.height
-  pub no_sectors : (end : ℕ × Halt) → world.halted ≡ Some end → world.sectors ≡ []
-  pub no_specials : (end : ℕ × Halt) → world.halted ≡ Some end → world.specials ≡ []
-  pub no_things : (end : ℕ × Halt) → world.halted ≡ Some end → world.things ≡ []
-  pub no_thinkers : (end : ℕ × Halt) → world.halted ≡ Some end → world.thinkers ≡ []
+  pub no_sectors : (end : ℕ × Halt) → world.halted ≡ Some end → world.lists.sectors ≡ []
+  pub no_specials : (end : ℕ × Halt) → world.halted ≡ Some end → world.lists.specials ≡ []
+  pub no_things : (end : ℕ × Halt) → world.halted ≡ Some end → world.lists.things ≡ []
+  pub no_thinkers : (end : ℕ × Halt) → world.halted ≡ Some end → world.lists.thinkers ≡ []

@@ -1,4 +1,5 @@
 pub mod Beside
+pub mod Listed
 pub mod Thinkers
 pub mod Flat
 pub mod Places
@@ -13,6 +14,7 @@ pub mod Kept
 pub mod Spawned
 pub use Rattle.doom_edge.specs.Counts
 pub use Rattle.page_store.specs.Pages
+pub use Rattle.page_store.specs.Over
 pub use Rattle.fixed_angle.specs.Tables
 pub use Rattle.health_fx.specs.Body
 pub use Rattle.map_geometry.specs.Lists

@@ -7,8 +7,8 @@ ghost use Rattle.cow_world.specs.Places.{linked_in, is_present};
 ghost use Rattle.cow_world.specs.Fits.{KeepsFit};
 
 use crate::grid::cell_under;
+use crate::lists::Lists;
 use crate::records::Thing;
-use crate::thing_list::ThingList;
 use crate::world::World;
 use doom_edge::{Memory, Steps};
 use link_order::{LinkOrder, Linked, Things};
@@ -41,8 +41,8 @@ impl World {
         let block = cell_under(level, x, y);
         let alloc = *self.acted.allocator();
         self.order.make_room(alloc)?;
-        let moved = moved_to(self.things.get(thing as usize), x, y);
-        self.things.set(thing as usize, moved, steps)?;
+        let moved = moved_to(self.lists.thing(thing as usize), x, y);
+        self.lists.set_thing(thing as usize, moved, steps)?;
         self.order.link(thing, block);
         Ok(())
     }
@@ -61,7 +61,7 @@ impl World {
         ensures fits { OnOk result (KeepsFit self.old self.new) }
     {
         let alloc = *self.acted.allocator();
-        let entries = entries_of(alloc, level, &self.things, things)?;
+        let entries = entries_of(alloc, level, &self.lists, things)?;
         self.order = LinkOrder::of(alloc, entries, level.width() * level.height())?;
         Ok(())
     }
@@ -103,7 +103,7 @@ impl World {
         let Some(block) = level.cell_at(column, row) else {
             return Ok(());
         };
-        push_block(&self.order, &self.things, block, out)?;
+        push_block(&self.order, &self.lists, block, out)?;
         Ok(())
     }
 }
@@ -116,12 +116,12 @@ fn moved_to(thing: Thing, x: i32, y: i32) -> Thing
 }
 
 // The entry of a thing in the block where it stands.
-fn entry_at(level: &Level, things: &ThingList, thing: u32) -> Linked
-    requires { thing < length things.now }
-    ensures entry { result ≡ entry_at things.now (grid_of level.now) thing }
+fn entry_at(level: &Level, lists: &Lists, thing: u32) -> Linked
+    requires { thing < length lists.now.things }
+    ensures entry { result ≡ entry_at lists.now.things (grid_of level.now) thing }
     ensures within { IsWithin (level.now.width * level.now.height) result }
 {
-    let there = things.get(thing as usize);
+    let there = lists.thing(thing as usize);
     Linked {
         thing,
         block: cell_under(level, there.x, there.y),
@@ -132,49 +132,44 @@ fn entry_at(level: &Level, things: &ThingList, thing: u32) -> Linked
 fn entries_of(
     alloc: Global,
     level: &Level,
-    things: &ThingList,
+    lists: &Lists,
     linked: &[u32],
 ) -> Result<Vec<Linked>, Memory>
-    requires { All (λ thing. thing < length things.now) linked.now }
-    ensures entries { IfOk result (λ entries. entries.items ≡ latest (entry_at things.now (grid_of level.now)) linked.now) }
+    requires { All (λ thing. thing < length lists.now.things) linked.now }
+    ensures entries { IfOk result (λ entries. entries.items ≡ latest (entry_at lists.now.things (grid_of level.now)) linked.now) }
     ensures within { IfOk result (λ entries. All (IsWithin (level.now.width * level.now.height)) entries.items) }
 {
     let mut entries = Vec::with_capacity(alloc, linked.len())?;
     for i in (0..linked.len()).rev() {
-        entries.push(entry_at(level, things, linked[i]))?;
+        entries.push(entry_at(level, lists, linked[i]))?;
     }
     Ok(entries)
 }
 
 // Appends the present things of the block with a number.
-fn push_block(
-    order: &LinkOrder,
-    things: &ThingList,
-    block: u32,
-    out: &mut Things,
-) -> Result<(), Memory>
-    ensures { OnOk result (out.new.items ≡ out.old.items ++ filter (is_present things.now) (block_things block order.now.order)) }
+fn push_block(order: &LinkOrder, lists: &Lists, block: u32, out: &mut Things) -> Result<(), Memory>
+    ensures { OnOk result (out.new.items ≡ out.old.items ++ filter (is_present lists.now.things) (block_things block order.now.order)) }
 {
     let mut linked = Things::new(*out.allocator());
     order.in_block(block, &mut linked)?;
-    push_present(things, &linked, out)?;
+    push_present(lists, &linked, out)?;
     Ok(())
 }
 
 // Appends those things that are present.
-fn push_present(things: &ThingList, linked: &[u32], out: &mut Things) -> Result<(), Memory>
-    ensures { OnOk result (out.new.items ≡ out.old.items ++ filter (is_present things.now) linked.now) }
+fn push_present(lists: &Lists, linked: &[u32], out: &mut Things) -> Result<(), Memory>
+    ensures { OnOk result (out.new.items ≡ out.old.items ++ filter (is_present lists.now.things) linked.now) }
 {
     for thing in linked {
-        if is_present(things, *thing) {
+        if is_present(lists, *thing) {
             out.push(*thing)?;
         }
     }
     Ok(())
 }
 
-fn is_present(things: &ThingList, thing: u32) -> bool
-    ensures { result ≡ is_present things.now thing }
+fn is_present(lists: &Lists, thing: u32) -> bool
+    ensures { result ≡ is_present lists.now.things thing }
 {
-    (thing as usize) < things.len() && things.get(thing as usize).present
+    (thing as usize) < lists.thing_count() && lists.thing(thing as usize).present
 }

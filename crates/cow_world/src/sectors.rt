@@ -13,7 +13,7 @@ impl World {
         requires { IsLive self.now }
         ensures { result ≡ length (parts self.now).sectors }
     {
-        self.sectors.len() as u32
+        self.lists.sector_count() as u32
     }
 
     /// The sector with a number. A mover that it names is there.
@@ -23,7 +23,7 @@ impl World {
         ensures entry { result ≡ sector_at self.now i }
         ensures mover { IfSome result.mover (λ mover. mover < length (parts self.now).thinkers) }
     {
-        self.sectors.get(i as usize)
+        self.lists.sector(i as usize)
     }
 
     pub fn set_sector(&mut self, i: u32, to: Sector, steps: &mut Steps) -> Result<(), Memory>
@@ -39,7 +39,7 @@ impl World {
         ensures least { steps.old.pages ≤ steps.new.pages }
         ensures most { steps.new.pages ≤ steps.old.pages + 34 }
     {
-        self.sectors.set(i as usize, to, steps)?;
+        self.lists.set_sector(i as usize, to, steps)?;
         Ok(())
     }
 
@@ -49,7 +49,7 @@ impl World {
         requires there { i < length (parts self.now).specials }
         ensures { result ≡ line_special_at self.now i }
     {
-        self.specials.get(i as usize)
+        self.lists.special(i as usize)
     }
 
     pub fn set_line_special(&mut self, i: u32, to: u16, steps: &mut Steps) -> Result<(), Memory>
@@ -64,7 +64,7 @@ impl World {
         ensures least { steps.old.pages ≤ steps.new.pages }
         ensures most { steps.new.pages ≤ steps.old.pages + 34 }
     {
-        self.specials.set(i as usize, to, steps)?;
+        self.lists.set_special(i as usize, to, steps)?;
         Ok(())
     }
 }

@@ -15,7 +15,7 @@ impl World {
         requires { IsLive self.now }
         ensures { result ≡ length (parts self.now).things }
     {
-        self.things.len() as u32
+        self.lists.thing_count() as u32
     }
 
     /// The thing at a place.
@@ -24,7 +24,7 @@ impl World {
         requires there { i < length (parts self.now).things }
         ensures { result ≡ thing_at self.now i }
     {
-        self.things.get(i as usize)
+        self.lists.thing(i as usize)
     }
 
     /// Adds a thing behind the others. It isn't linked yet.
@@ -39,10 +39,10 @@ impl World {
         ensures least { steps.old.pages ≤ steps.new.pages }
         ensures most { steps.new.pages ≤ steps.old.pages + 34 }
     {
-        if self.things.len() >= u32::MAX as usize {
+        if self.lists.thing_count() >= u32::MAX as usize {
             return Err(Memory);
         }
-        self.things.push(thing, steps)?;
+        self.lists.push_thing(thing, steps)?;
         Ok(())
     }
 
@@ -61,7 +61,7 @@ impl World {
         ensures least { steps.old.pages ≤ steps.new.pages }
         ensures most { steps.new.pages ≤ steps.old.pages + 34 }
     {
-        self.things.set(i as usize, to, steps)?;
+        self.lists.set_thing(i as usize, to, steps)?;
         Ok(())
     }
 

@@ -15,7 +15,7 @@ impl World {
         requires { IsLive self.now }
         ensures { result ≡ length (parts self.now).thinkers }
     {
-        self.thinkers.len() as u32
+        self.lists.thinker_count() as u32
     }
 
     /// The thinker at a place. Its sector is there.
@@ -25,7 +25,7 @@ impl World {
         ensures entry { result ≡ thinker_at self.now i }
         ensures sector { IfSome (sector_of result) (λ sector. sector < length (parts self.now).sectors) }
     {
-        self.thinkers.get(i as usize)
+        self.lists.thinker(i as usize)
     }
 
     /// Adds a thinker behind the others. The sector that it moves doesn't name it yet.
@@ -41,10 +41,10 @@ impl World {
         ensures least { steps.old.pages ≤ steps.new.pages }
         ensures most { steps.new.pages ≤ steps.old.pages + 34 }
     {
-        if self.thinkers.len() >= u32::MAX as usize {
+        if self.lists.thinker_count() >= u32::MAX as usize {
             return Err(Memory);
         }
-        self.thinkers.push(thinker, steps)?;
+        self.lists.push_thinker(thinker, steps)?;
         Ok(())
     }
 
@@ -62,7 +62,7 @@ impl World {
         ensures least { steps.old.pages ≤ steps.new.pages }
         ensures most { steps.new.pages ≤ steps.old.pages + 34 }
     {
-        self.thinkers.set(i as usize, to, steps)?;
+        self.lists.set_thinker(i as usize, to, steps)?;
         Ok(())
     }
     /// Ends the mover at a place: the sector that it moved names no mover any more, and `Ended` is left at the place.

@@ -6,14 +6,13 @@ ghost use Rattle.cow_world.specs.Fits.{FitsLevel, FitsBut};
 ghost use Rattle.cow_world.specs.Flat.{opening, no_player, sector_from, special_from, page_sum, item_sum, halt_of, set_halted, halted_on, IsLive};
 
 use crate::grid::{Grid, level_grid};
-use crate::records::{Player, Sector, Thinker};
-use crate::thing_list::ThingList;
+use crate::lists::Lists;
+use crate::records::{Player, Sector};
 use doom_edge::{Memory, Steps, moves_between_threads};
 use game_trait::Halt;
 use health_fx::Body;
 use link_order::LinkOrder;
 use map_geometry::Level;
-use page_store::Store;
 use std::alloc::Global;
 use std::marker::Model;
 
@@ -31,11 +30,8 @@ use std::marker::Model;
 /// was before the call.
 #[derive(Drop)]
 pub struct World {
-    pub(crate) sectors: Store<Sector>,
-    pub(crate) specials: Store<u16>,
-    pub(crate) things: ThingList,
+    pub(crate) lists: Lists,
     pub(crate) order: LinkOrder,
-    pub(crate) thinkers: Store<Thinker>,
     pub(crate) acted: Vec<u32>,
     pub(crate) player: Player,
     pub(crate) rng: u8,
@@ -92,11 +88,12 @@ impl World {
     {
         let grid = level_grid(level);
         Ok(World {
-            sectors: Store::from_list(alloc, opening_sectors(alloc, level)?)?,
-            specials: Store::from_list(alloc, opening_specials(alloc, level)?)?,
-            things: ThingList::new(alloc)?,
+            lists: Lists::new(
+                alloc,
+                opening_sectors(alloc, level)?,
+                opening_specials(alloc, level)?,
+            )?,
             order: LinkOrder::new(alloc, grid.width * grid.height)?,
-            thinkers: Store::from_list(alloc, Vec::new(alloc))?,
             acted: Vec::new(alloc),
             player: no_player(),
             rng: 0,
@@ -120,11 +117,8 @@ impl World {
     {
         let alloc = *self.acted.allocator();
         Ok(World {
-            sectors: self.sectors.fork(steps)?,
-            specials: self.specials.fork(steps)?,
-            things: self.things.fork(steps)?,
+            lists: self.lists.fork(steps)?,
             order: self.order.fork()?,
-            thinkers: self.thinkers.fork(steps)?,
             acted: Vec::from_slice(alloc, &self.acted)?,
             player: self.player,
             rng: self.rng,
@@ -147,10 +141,7 @@ impl World {
         ensures most { steps.new.pages ≤ steps.old.pages + item_sum self.old + 34 }
     {
         let alloc = *self.acted.allocator();
-        self.sectors.own_pages(steps)?;
-        self.specials.own_pages(steps)?;
-        self.things.own_pages(self.player.thing, steps)?;
-        self.thinkers.own_pages(steps)?;
+        self.lists.own_pages(alloc, self.player.thing, steps)?;
         self.order.settle(alloc)?;
         Ok(())
     }
@@ -167,10 +158,7 @@ impl World {
     pub fn set_halted(&mut self, tic: u64, halt: Halt)
         ensures { self.new ≡ set_halted self.old tic halt }
     {
-        self.sectors.clear();
-        self.specials.clear();
-        self.things.clear();
-        self.thinkers.clear();
+        self.lists.clear();
         self.acted.clear();
         self.player = no_player();
         self.halted = Some((tic, halt));

@@ -7,7 +7,7 @@ use crate::linked::Linked;
 use std::marker::Model;
 
 // How many links are kept beside the base.
-pub(crate) const RECENT_LEN: usize = 16;
+pub(crate) const RECENT_LEN: usize = 4;
 
 // The latest links, the last first. They stand in the struct itself, so that a copy takes no memory.
 #[derive(Drop)]

@@ -2,6 +2,8 @@
 #![tactic(auto)]
 
 mod page;
+mod pages;
 mod store;
 
+pub use pages::Pages;
 pub use store::Store;

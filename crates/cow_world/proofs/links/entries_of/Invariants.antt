@@ -7,6 +7,6 @@ use Rattle.cow_world.proofs.links.entries_of.Given as goal
 
 abbrev pub invariant-loop-i : goal.invariant-loop-i
 invariant-loop-i l = record {
-  entries : l.entries.items ≡ latest (entry_at l.things (grid_of l.level)) (drop l.i l.linked);
+  entries : l.entries.items ≡ latest (entry_at l.lists.things (grid_of l.level)) (drop l.i l.linked);
   within : All (IsWithin (l.level.width * l.level.height)) l.entries.items;
 }

@@ -5,4 +5,4 @@ use Rattle.cow_world.specs.Places.{is_present}
 use Rattle.cow_world.proofs.links.push_present.Given as goal
 
 abbrev pub invariant-loop-thing : goal.invariant-loop-thing
-invariant-loop-thing l = l.out.items ≡ l.fn.out.items ++ filter (is_present l.things) (take l.thing-index l.linked)
+invariant-loop-thing l = l.out.items ≡ l.fn.out.items ++ filter (is_present l.lists.things) (take l.thing-index l.linked)

@@ -2,38 +2,26 @@ use Rattle.std.proofs.Common.{◌∙◌, refl, arith}
 use Rattle.cow_world.proofs.Forks.{forked_pages, kept_again}
 use Rattle.cow_world.proofs.world.World.fork.Goals as goal
 
-pub invariant_of-self-in_err-fork-5 : goal.invariant_of-self-in_err-fork-5
-invariant_of-self-in_err-fork-5 c = rw (c.fork.ensures.kept, c.fork-2.ensures.kept, c.fork-3.ensures.kept, c.fork-5.ensures.kept) c.self.invariant
-
-pub invariant_of-self-in_err-from_slice : goal.invariant_of-self-in_err-from_slice
-invariant_of-self-in_err-from_slice c = rw (c.fork.ensures.kept, c.fork-2.ensures.kept, c.fork-3.ensures.kept, c.fork-5.ensures.kept) c.self.invariant
+pub returns-clause-most : goal.returns-clause-most
+returns-clause-most c = forked_pages c.self.inside c.args.self.now _ _ c.self.view_is c.self.invariant c.fork.ensures.most
 
 pub invariant_of-self-2 : goal.invariant_of-self-2
-invariant_of-self-2 c = rw (c.fork.ensures.kept, c.fork-2.ensures.kept, c.fork-3.ensures.kept, c.fork-5.ensures.kept) c.self.invariant
-
-pub returns-in_err-fork-5-clause-most : goal.returns-in_err-fork-5-clause-most
-returns-in_err-fork-5-clause-most c = forked_pages c.self.inside c.args.self.now _ _ _ _ _ c.self.view_is c.self.invariant c.fork.ensures.most c.fork-2.ensures.most c.fork-3.ensures.most c.fork-5.ensures.most
-
-pub returns-in_err-from_slice-clause-most : goal.returns-in_err-from_slice-clause-most
-returns-in_err-from_slice-clause-most c = forked_pages c.self.inside c.args.self.now _ _ _ _ _ c.self.view_is c.self.invariant c.fork.ensures.most c.fork-2.ensures.most c.fork-3.ensures.most c.fork-5.ensures.most
-
-pub returns-clause-most : goal.returns-clause-most
-returns-clause-most c = forked_pages c.self.inside c.args.self.now _ _ _ _ _ c.self.view_is c.self.invariant c.fork.ensures.most c.fork-2.ensures.most c.fork-3.ensures.most c.fork-5.ensures.most
+invariant_of-self-2 c = rw c.fork.ensures.kept c.self.invariant
 
 pub invariant_of-result : goal.invariant_of-result
 invariant_of-result c =
-    kept_again c.self.inside _ c.in_ok-fork.ensures.same c.in_ok-fork-2.ensures.same c.in_ok-fork-3.ensures.same
-    c.in_ok-fork-4.ensures.order c.in_ok-fork-4.ensures.blocks c.in_ok-fork-5.ensures.same (c.in_ok-from_slice.ensures.items ∙ c.deref.ensures.value)
+    kept_again c.self.inside _ c.in_ok-fork.ensures.same
+    c.in_ok-fork-2.ensures.order c.in_ok-fork-2.ensures.blocks (c.in_ok-from_slice.ensures.items ∙ c.deref.ensures.value)
     refl refl refl refl c.self.invariant
 
+pub invariant_of-self-in_err-fork-2 : goal.invariant_of-self-in_err-fork-2
+invariant_of-self-in_err-fork-2 c = rw c.fork.ensures.kept c.self.invariant
+
 pub returns-in_err-fork-2-clause-most : goal.returns-in_err-fork-2-clause-most
-returns-in_err-fork-2-clause-most c = forked_pages c.self.inside c.args.self.now _ _ c.fork-2.new.steps.pages c.fork-2.new.steps.pages c.fork-2.new.steps.pages c.self.view_is c.self.invariant c.fork.ensures.most c.fork-2.ensures.most (omega arith) (omega arith)
+returns-in_err-fork-2-clause-most c = forked_pages c.self.inside c.args.self.now _ _ c.self.view_is c.self.invariant c.fork.ensures.most
 
-pub returns-in_err-fork-3-clause-most : goal.returns-in_err-fork-3-clause-most
-returns-in_err-fork-3-clause-most c = forked_pages c.self.inside c.args.self.now _ _ _ c.fork-3.new.steps.pages c.fork-3.new.steps.pages c.self.view_is c.self.invariant c.fork.ensures.most c.fork-2.ensures.most c.fork-3.ensures.most (omega arith)
+pub invariant_of-self-in_err-from_slice : goal.invariant_of-self-in_err-from_slice
+invariant_of-self-in_err-from_slice c = rw c.fork.ensures.kept c.self.invariant
 
-pub returns-in_err-fork-4-clause-most : goal.returns-in_err-fork-4-clause-most
-returns-in_err-fork-4-clause-most c = forked_pages c.self.inside c.args.self.now _ _ _ c.fork-3.new.steps.pages c.fork-3.new.steps.pages c.self.view_is c.self.invariant c.fork.ensures.most c.fork-2.ensures.most c.fork-3.ensures.most (omega arith)
-
-pub invariant_of-self-in_err-fork-4 : goal.invariant_of-self-in_err-fork-4
-invariant_of-self-in_err-fork-4 c = rw (c.fork.ensures.kept, c.fork-2.ensures.kept, c.fork-3.ensures.kept) c.self.invariant
+pub returns-in_err-from_slice-clause-most : goal.returns-in_err-from_slice-clause-most
+returns-in_err-from_slice-clause-most c = forked_pages c.self.inside c.args.self.now _ _ c.self.view_is c.self.invariant c.fork.ensures.most

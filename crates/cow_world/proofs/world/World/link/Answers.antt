@@ -16,16 +16,16 @@ use Rattle.cow_world.proofs.world.World.link.Goals as goal
 pub invariant_of-self : goal.invariant_of-self
 invariant_of-self c = kept-room c.self.inside c.make_room.new.self c.make_room.ensures.order c.make_room.ensures.blocks c.self.invariant
 
-pub invariant_of-self-in_err-set : goal.invariant_of-self-in_err-set
-invariant_of-self-in_err-set c = rw c.in_err-set.ensures.err (kept-room c.self.inside c.make_room.new.self c.make_room.ensures.order c.make_room.ensures.blocks c.self.invariant)
+pub invariant_of-self-in_err-set_thing : goal.invariant_of-self-in_err-set_thing
+invariant_of-self-in_err-set_thing c = rw c.in_err-set_thing.ensures.err (kept-room c.self.inside c.make_room.new.self c.make_room.ensures.order c.make_room.ensures.blocks c.self.invariant)
 
-pub get-requires : goal.get-requires
-get-requires c =
+pub thing-requires : goal.thing-requires
+thing-requires c =
     let same = ap (λ (l : Live). length l.things) (parts_are _ _ _ _ c.self.view_is c.requires.live) in
     rw same c.requires.there
 
-pub set-requires : goal.set-requires
-set-requires c =
+pub set_thing-requires : goal.set_thing-requires
+set_thing-requires c =
     let same = ap (λ (l : Live). length l.things) (parts_are _ _ _ _ c.self.view_is c.requires.live) in
     rw same c.requires.there
 
@@ -38,11 +38,11 @@ link-requires-clause-within c =
     subst Within blocks c.cell_under-block.ensures.within
 
 -- the thing at its new place
-moved : (c : goal.After-link) → c.moved_to-moved.result ≡ record (get_or c.self.inside.things c.args.thing no_thing) { x = c.args.x; y = c.args.y }
+moved : (c : goal.After-link) → c.moved_to-moved.result ≡ record (get_or c.self.inside.lists.things c.args.thing no_thing) { x = c.args.x; y = c.args.y }
 moved c =
     let x = to_z-of_z w32 c.args.x c.ranges.x in
     let y = to_z-of_z w32 c.args.y c.ranges.y in
-    let read : get_or c.self.inside.things c.args.thing no_thing ≡ c.get.result = get_or_from_slice_get c.self.inside.things c.args.thing c.get.result no_thing c.get.ensures in
+    let read : get_or c.self.inside.lists.things c.args.thing no_thing ≡ c.thing.result = get_or_from_slice_get c.self.inside.lists.things c.args.thing c.thing.result no_thing c.thing.ensures in
     rw read (rw (x, y) at c.moved_to-moved.ensures)
 
 -- the order, with its entry first
@@ -59,15 +59,15 @@ pub invariant_of-self-2 : goal.invariant_of-self-2
 invariant_of-self-2 c =
     let live = is_live _ _ _ _ c.self.view_is c.requires.live in
     let same = ap (λ (l : Live). length l.things) (parts_are _ _ _ _ c.self.view_is c.requires.live) in
-    let there : c.args.thing < length c.self.inside.things = rw same c.requires.there in
+    let there : c.args.thing < length c.self.inside.lists.things = rw same c.requires.there in
     let to = c.moved_to-moved.result in
     let blocks = c.link.ensures.blocks ∙ c.make_room.ensures.blocks in
-    rw c.in_ok-set.ensures.ok
+    rw c.in_ok-set_thing.ensures.ok
     (kept-link c.self.inside c.args.thing c.args.x c.args.y to c.link.new.self live there
     (ap (λ (t : Thing). t.x) (moved c)) (ap (λ (t : Thing). t.y) (moved c)) (ordered c) blocks c.self.invariant)
 
-shown : (c : goal.After-link) → world_in (record c.self.inside { things = c.set.new.self; order = c.link.new.self }) ≡ link c.args.self.now c.args.thing c.args.x c.args.y
-shown c = rw c.in_ok-set.ensures.ok (shows-link c.self.inside c.args.thing c.args.x c.args.y c.moved_to-moved.result c.link.new.self _ c.self.view_is c.requires.live (moved c) (ordered c))
+shown : (c : goal.After-link) → world_in (record c.self.inside { lists = c.set_thing.new.self; order = c.link.new.self }) ≡ link c.args.self.now c.args.thing c.args.x c.args.y
+shown c = rw c.in_ok-set_thing.ensures.ok (shows-link c.self.inside c.args.thing c.args.x c.args.y c.moved_to-moved.result c.link.new.self _ c.self.view_is c.requires.live (moved c) (ordered c))
 
 pub returns-clause-ok : goal.returns-clause-ok
 returns-clause-ok c = shown c

@@ -8,15 +8,15 @@ use Rattle.cow_world.proofs.world.World.push_thing.Goals as goal
 pub invariant_of-self-2 : goal.invariant_of-self-2
 invariant_of-self-2 c =
     let live : c.self.inside.halted ≡ None = is_live _ _ _ _ c.self.view_is c.requires in
-    rw c.in_ok-push.ensures.ok
+    rw c.in_ok-push_thing.ensures.ok
     (record {
       movers = c.self.invariant.movers;
       thinkers = c.self.invariant.thinkers;
-      player = omega (arith, c.self.invariant.player, length-append c.self.inside.things (c.args.thing ∷ []));
+      player = omega (arith, c.self.invariant.player, length-append c.self.inside.lists.things (c.args.thing ∷ []));
       acted = c.self.invariant.acted;
       exited = c.self.invariant.exited;
       few_sectors = c.self.invariant.few_sectors;
-      few_things = omega (arith, length-append c.self.inside.things (c.args.thing ∷ []));
+      few_things = omega (arith, length-append c.self.inside.lists.things (c.args.thing ∷ []));
       few_thinkers = c.self.invariant.few_thinkers;
       entries = λ _. entries-push _ _ _ _ (c.self.invariant.entries live);
       blocks = c.self.invariant.blocks;

@@ -1,0 +1,293 @@
+// What was written of a list over its base.
+ghost use Rattle.std.specs.Prelude.{◌≡◌, ◌+◌, ◌*◌, ◌<◌, ◌≤◌, List, [], ◌∷◌, ◌++◌, Some, length, slice_get, slice_set, OnOk, OnErr, IfOk};
+ghost use Rattle.page_store.specs.Pages.{pieces_of, joined, seen_in, ArePages, IsStore, IsLaidOut, page_count};
+ghost use Rattle.page_store.specs.Over.{seen, IsOver};
+
+use crate::page::{PAGE_LEN, Page};
+use doom_edge::{Memory, Steps};
+use std::alloc::Global;
+
+/// A list of items in pages of 32, over a base that stands elsewhere and is passed to each call: the items that the list
+/// was made of. So one `Arc` may hold the bases of many lists. A list has no pages until the first write, and then one
+/// for each 32 items, which names its place in the base until it is written. After a fork two lists share the base and all
+/// pages, and each copies a page before it first writes into it. A page step is one item copied, or one page named or
+/// made shared.
+#[derive(Drop)]
+pub struct Pages<T> {
+    pages: Vec<Page<T>>,
+    len: usize,
+}
+
+impl<T: Copy> Pages<T> {
+    /// The list that the base is.
+    pub fn over(alloc: Global, base: &[T]) -> Pages<T>
+        ensures seen { seen base.now result ≡ base.now }
+        ensures over { IsOver base.now result }
+    {
+        Pages {
+            pages: Vec::new(alloc),
+            len: base.len(),
+        }
+    }
+
+    /// Lets all items go, whatever the base is. It takes no memory.
+    pub fn clear(&mut self)
+        ensures seen { (base : List T) → seen base self.new ≡ [] }
+        ensures over { (base : List T) → IsOver base self.new }
+    {
+        self.pages.clear();
+        self.len = 0;
+    }
+
+    /// How many items there are.
+    pub fn len(&self) -> usize
+        ensures { (base : List T) → IsOver base self.now → result ≡ length (seen base self.now) }
+    {
+        self.len
+    }
+
+    /// The item at a place.
+    pub fn get(&self, base: &[T], i: usize) -> T
+        requires over { IsOver base.now self.now }
+        requires there { i < length (seen base.now self.now) }
+        ensures { slice_get (seen base.now self.now) i ≡ Some result }
+    {
+        item_in(base, &self.pages, self.len, i)
+    }
+
+    /// Writes an item at a place. On `Memory` the list is as before.
+    pub fn set(&mut self, base: &[T], i: usize, item: T, steps: &mut Steps) -> Result<(), Memory>
+        requires over { IsOver base.now self.old }
+        requires there { i < length (seen base.now self.old) }
+        ensures over { IsOver base.now self.new }
+        ensures ok { OnOk result (seen base.now self.new ≡ slice_set (seen base.now self.old) i item) }
+        ensures err { OnErr result (seen base.now self.new ≡ seen base.now self.old) }
+
+        ensures tics { steps.new.tics ≡ steps.old.tics }
+        ensures least { steps.old.pages ≤ steps.new.pages }
+        ensures most { steps.new.pages ≤ steps.old.pages + 34 }
+    {
+        write(base, &mut self.pages, self.len, i, item, steps)
+    }
+
+    /// Appends an item. On `Memory` the list is as before.
+    pub fn push(&mut self, base: &[T], item: T, steps: &mut Steps) -> Result<(), Memory>
+        requires { IsOver base.now self.old }
+        ensures over { IsOver base.now self.new }
+        ensures ok { OnOk result (seen base.now self.new ≡ seen base.now self.old ++ item ∷ []) }
+        ensures err { OnErr result (seen base.now self.new ≡ seen base.now self.old) }
+
+        ensures tics { steps.new.tics ≡ steps.old.tics }
+        ensures least { steps.old.pages ≤ steps.new.pages }
+        ensures most { steps.new.pages ≤ steps.old.pages + 34 }
+    {
+        if self.len == usize::MAX {
+            return Err(Memory);
+        }
+        append(base, &mut self.pages, self.len, item, steps)?;
+        self.len += 1;
+        Ok(())
+    }
+
+    /// A second list with the same items, over the same base. A later write to either leaves the other.
+    pub fn fork(&mut self, base: &[T], steps: &mut Steps) -> Result<Pages<T>, Memory>
+        requires { IsOver base.now self.old }
+        ensures over { IsOver base.now self.new }
+        ensures forked { IfOk result (λ forked. IsOver base.now forked) }
+        ensures same { IfOk result (λ forked. seen base.now forked ≡ seen base.now self.old) }
+        ensures kept { seen base.now self.new ≡ seen base.now self.old }
+
+        ensures tics { steps.new.tics ≡ steps.old.tics }
+        ensures least { steps.old.pages ≤ steps.new.pages }
+        ensures most { steps.new.pages ≤ steps.old.pages + 2 * page_count (length (seen base.now self.old)) }
+    {
+        let pages = share_all(base, &mut self.pages, steps)?;
+        Ok(Pages {
+            pages,
+            len: self.len,
+        })
+    }
+
+    /// All items, each copied by one step.
+    pub fn copied(&self, base: &[T], steps: &mut Steps) -> Result<Vec<T>, Memory>
+        requires { IsOver base.now self.now }
+        ensures items { IfOk result (λ items. items.items ≡ seen base.now self.now) }
+        ensures tics { steps.new.tics ≡ steps.old.tics }
+        ensures least { steps.old.pages ≤ steps.new.pages }
+        ensures most { steps.new.pages ≤ steps.old.pages + length (seen base.now self.now) }
+    {
+        let mut items = Vec::with_capacity(*self.pages.allocator(), self.len)?;
+        for i in 0..self.len {
+            steps.page();
+            items.push(self.get(base, i))?;
+        }
+        Ok(items)
+    }
+}
+
+// The item at a place of a store.
+fn item_in<T: Copy>(base: &[T], pages: &[Page<T>], len: usize, i: usize) -> T
+    requires store { IsStore base.now pages.now len }
+    requires there { i < length (seen_in base.now pages.now len) }
+    ensures { slice_get (seen_in base.now pages.now len) i ≡ Some result }
+{
+    if pages.len() == 0 {
+        return base_item(base, i);
+    }
+    item_at(base, pages, i)
+}
+
+// Writes an item at a place of a store.
+fn write<T: Copy>(
+    base: &[T],
+    pages: &mut Vec<Page<T>>,
+    len: usize,
+    i: usize,
+    item: T,
+    steps: &mut Steps,
+) -> Result<(), Memory>
+    requires store { IsStore base.now pages.old.items len }
+    requires there { i < length (seen_in base.now pages.old.items len) }
+    ensures store { IsStore base.now pages.new.items len }
+    ensures ok { OnOk result (seen_in base.now pages.new.items len ≡ slice_set (seen_in base.now pages.old.items len) i item) }
+    ensures err { OnErr result (seen_in base.now pages.new.items len ≡ seen_in base.now pages.old.items len) }
+    ensures tics { steps.new.tics ≡ steps.old.tics }
+    ensures least { steps.old.pages ≤ steps.new.pages }
+    ensures most { steps.new.pages ≤ steps.old.pages + 34 }
+{
+    lay_out(base, pages, len)?;
+    set_item(base, pages, i, item, steps)?;
+    Ok(())
+}
+
+// Appends an item to a store.
+fn append<T: Copy>(
+    base: &[T],
+    pages: &mut Vec<Page<T>>,
+    len: usize,
+    item: T,
+    steps: &mut Steps,
+) -> Result<(), Memory>
+    requires store { IsStore base.now pages.old.items len }
+    ensures store { OnOk result (IsStore base.now pages.new.items (len + 1)) }
+    ensures ok { OnOk result (seen_in base.now pages.new.items (len + 1) ≡ seen_in base.now pages.old.items len ++ item ∷ []) }
+    ensures same { OnErr result (IsStore base.now pages.new.items len) }
+    ensures err { OnErr result (seen_in base.now pages.new.items len ≡ seen_in base.now pages.old.items len) }
+    ensures tics { steps.new.tics ≡ steps.old.tics }
+    ensures least { steps.old.pages ≤ steps.new.pages }
+    ensures most { steps.new.pages ≤ steps.old.pages + 34 }
+{
+    lay_out(base, pages, len)?;
+    push_item(base, pages, len, item, steps)?;
+    Ok(())
+}
+
+// The item at a place of the base.
+fn base_item<T: Copy>(base: &[T], i: usize) -> T
+    requires { i < length base.now }
+    ensures { slice_get base.now i ≡ Some result }
+{
+    base[i]
+}
+
+// Gives a store that has no pages yet its pages over the base. On `Memory` they are as before.
+fn lay_out<T: Copy>(base: &[T], pages: &mut Vec<Page<T>>, len: usize) -> Result<(), Memory>
+    requires { IsStore base.now pages.old.items len }
+    ensures paged { OnOk result (ArePages (pieces_of base.now pages.new.items)) }
+    ensures ok { OnOk result (joined (pieces_of base.now pages.new.items) ≡ seen_in base.now pages.old.items len) }
+    ensures err { OnErr result (pages.new.items ≡ pages.old.items) }
+{
+    if pages.len() > 0 || len == 0 {
+        return Ok(());
+    }
+    *pages = pages_over(*pages.allocator(), base)?;
+    Ok(())
+}
+
+// The pages over a base.
+fn pages_over<T: Copy>(alloc: Global, base: &[T]) -> Result<Vec<Page<T>>, Memory>
+    ensures { IfOk result (λ pages. ArePages (pieces_of base.now pages.items) × (joined (pieces_of base.now pages.items) ≡ base.now)) }
+{
+    let count = base.len().div_ceil(PAGE_LEN);
+    let mut pages = Vec::with_capacity(alloc, count)?;
+    for k in 0..count {
+        pages.push(Page::Based(PAGE_LEN * k))?;
+    }
+    Ok(pages)
+}
+
+// The item at a place of the pages.
+fn item_at<T: Copy>(base: &[T], pages: &[Page<T>], i: usize) -> T
+    requires paged { ArePages (pieces_of base.now pages.now) }
+    requires there { i < length (joined (pieces_of base.now pages.now)) }
+    ensures { slice_get (joined (pieces_of base.now pages.now)) i ≡ Some result }
+{
+    pages[i / PAGE_LEN].item(base, i % PAGE_LEN)
+}
+
+// Writes an item at a place of the pages.
+fn set_item<T: Copy>(
+    base: &[T],
+    pages: &mut Vec<Page<T>>,
+    i: usize,
+    item: T,
+    steps: &mut Steps,
+) -> Result<(), Memory>
+    requires paged { ArePages (pieces_of base.now pages.old.items) }
+    requires there { i < length (joined (pieces_of base.now pages.old.items)) }
+    ensures paged { ArePages (pieces_of base.now pages.new.items) }
+    ensures ok { OnOk result (joined (pieces_of base.now pages.new.items) ≡ slice_set (joined (pieces_of base.now pages.old.items)) i item) }
+    ensures err { OnErr result (joined (pieces_of base.now pages.new.items) ≡ joined (pieces_of base.now pages.old.items)) }
+    ensures tics { steps.new.tics ≡ steps.old.tics }
+    ensures least { steps.old.pages ≤ steps.new.pages }
+    ensures most { steps.new.pages ≤ steps.old.pages + 34 }
+{
+    let alloc = *pages.allocator();
+    pages[i / PAGE_LEN].set(alloc, base, i % PAGE_LEN, item, steps)?;
+    Ok(())
+}
+
+// Appends an item to the pages, which have `len` items: to the last page where it has room, else to a new one.
+fn push_item<T: Copy>(
+    base: &[T],
+    pages: &mut Vec<Page<T>>,
+    len: usize,
+    item: T,
+    steps: &mut Steps,
+) -> Result<(), Memory>
+    requires { IsLaidOut (pieces_of base.now pages.old.items) len }
+    ensures ok { OnOk result (ArePages (pieces_of base.now pages.new.items) × (joined (pieces_of base.now pages.new.items) ≡ joined (pieces_of base.now pages.old.items) ++ item ∷ [])) }
+    ensures err { OnErr result (pieces_of base.now pages.new.items ≡ pieces_of base.now pages.old.items) }
+    ensures tics { steps.new.tics ≡ steps.old.tics }
+    ensures least { steps.old.pages ≤ steps.new.pages }
+    ensures most { steps.new.pages ≤ steps.old.pages + 34 }
+{
+    let alloc = *pages.allocator();
+    if len % PAGE_LEN == 0 {
+        let page = Page::of(alloc, item, steps)?;
+        pages.push(page)?;
+        return Ok(());
+    }
+    pages[len / PAGE_LEN].push(alloc, base, item, steps)?;
+    Ok(())
+}
+
+// Gives each page over a base a second name.
+fn share_all<T: Copy>(
+    base: &[T],
+    pages: &mut Vec<Page<T>>,
+    steps: &mut Steps,
+) -> Result<Vec<Page<T>>, Memory>
+    ensures same { IfOk result (λ named. pieces_of base.now named.items ≡ pieces_of base.now pages.old.items) }
+    ensures kept { pieces_of base.now pages.new.items ≡ pieces_of base.now pages.old.items }
+    ensures tics { steps.new.tics ≡ steps.old.tics }
+    ensures least { steps.old.pages ≤ steps.new.pages }
+    ensures most { steps.new.pages ≤ steps.old.pages + 2 * length pages.old.items }
+{
+    let alloc = *pages.allocator();
+    let mut named = Vec::with_capacity(alloc, pages.len())?;
+    for k in 0..pages.len() {
+        named.push(pages[k].share(alloc, steps)?)?;
+    }
+    Ok(named)
+}
