@@ -1,3 +1,4 @@
 pub mod Same
 pub mod Product
 pub mod Sequences
+pub mod Turns

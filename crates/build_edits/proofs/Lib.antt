@@ -1,3 +1,4 @@
 pub mod Builds
 pub mod Gaps
+pub mod Held
 pub mod Sessions

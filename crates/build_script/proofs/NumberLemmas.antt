@@ -5,15 +5,15 @@ use Rattle.std.specs.List.{list_all}
 use Rattle.std.specs.Char.{is_ascii_digit}
 use Rattle.std.specs.Result.{OkIff, result_ok}
 use Rattle.std.specs.Str.{IsAscii, IsUtf8, all_ascii_digits}
-use Rattle.std.specs.Str.Parse.{ParsesSigned, starts_with_minus, digits_value}
+use Rattle.std.specs.Str.Parse.{ParsesSigned, ParsesUnsigned, starts_with_minus, digits_value}
 use Rattle.std.proofs.lemmas.Bool.{le-leb, lt-leb, eqb-false}
 use Rattle.std.proofs.lemmas.Bool.Decides.{nat_tests}
 use Rattle.std.proofs.lemmas.Str.{IsUtf8-from_ascii}
 use Rattle.std.proofs.lemmas.Str.Ascii.{IsAscii-nil, IsAscii-cons}
-use Rattle.std.proofs.lemmas.Str.Parse.{IsNumeralModel, numerals_by_value, tells_all_ascii_digits, parse_signed_minus, parse_signed_plain, digits_value_short}
+use Rattle.std.proofs.lemmas.Str.Parse.{IsNumeralModel, numerals_by_value, tells_all_ascii_digits, parse_signed_minus, parse_signed_plain, parse_plain, digits_value_short}
 use Rattle.build_script.specs.declared.numbers.Bounds.{Bounds}
 use Rattle.build_script.specs.declared.fault.Kind.TheVariants.{Number}
-use Rattle.build_script.specs.Numbers.{digits_in, in_bounds, is_number, number_of, number_within}
+use Rattle.build_script.specs.Numbers.{digits_in, in_bounds, is_number, is_decimal, number_of, number_within}
 
 tested : (b : Bool) → (b ≡ true) ⊎ (b ≡ false)
 tested true = inl refl
@@ -73,7 +73,7 @@ spelled digits value (Err f) e few h =
     rw none refl
 
 -- the condition that is left of three
-middle : {E : Type 0} (P Q R : Type 0) (value : ℤ) (r : Result ℤ E) → P → R → OkIff r (P × Q × R) value → OkIff r Q value
+middle : {E V : Type 0} (P Q R : Type 0) (value : V) (r : Result V E) → P → R → OkIff r (P × Q × R) value → OkIff r Q value
 middle P Q R value (Ok x) p w h = (h.0.1, h.1)
 middle P Q R value (Err f) p w h = λ q. h (p, q, w)
 
@@ -114,3 +114,29 @@ spelled_in bounds false value number e = absurd (cc)
 -- a word that spells a number is judged by that number's bounds
 pub number_within-spelled : (bounds : Bounds) (word : List ℕ) (number : ℤ) → Some number ≡ (if is_number word then Some (number_of word) else None) → in_bounds bounds number ≡ number_within bounds word
 number_within-spelled bounds word number e = spelled_in bounds (is_number word) (number_of word) number e
+
+-- ---- without a minus
+
+spelled_decimal : {E : Type 0} (digits : ℕ) (word : List ℕ) (value : ℕ) (r : Result ℕ E) → list_all is_ascii_digit word ≡ true → length word ≤ digits → OkIff r (0 < length word) value
+    → result_ok r ≡ (if is_decimal digits word then Some value else None)
+spelled_decimal digits word value (Ok x) e few h =
+    let some : nat_le 1 (length word) ≡ true = le-leb 1 (length word) h.0 in
+    let fits : nat_le (length word) digits ≡ true = le-leb (length word) digits few in
+    rw (some, fits, e, h.1) refl
+spelled_decimal digits word value (Err f) e few h =
+    let none : nat_le 1 (length word) ≡ false = lt-leb 1 (length word) (grind arith) in
+    rw none refl
+
+-- digits are text
+pub decimal_ascii : (word : List ℕ) → list_all is_ascii_digit word ≡ true → IsUtf8 word
+decimal_ascii word e = IsUtf8-from_ascii word (ascii_digits word e)
+
+-- what `parse` gives for 18 digits at most is what they spell
+pub parsed_decimal : {E : Type 0} (digits : ℕ) (word : List ℕ) (r : Result ℕ E) → ParsesUnsigned 64 10 word r → digits ≤ 18 → list_all is_ascii_digit word ≡ true → length word ≤ digits
+    → result_ok r ≡ (if is_decimal digits word then Some (digits_value 10 word) else None)
+parsed_decimal digits word r h most good few =
+    let below : digits_value 10 word < 10 ^ 18 = short word good (omega (arith, few, most)) in
+    let room : digits_value 10 word < 2 ^ 64 = omega (arith, below) in
+    let read : OkIff r (0 < length word) (digits_value 10 word) =
+    middle _ _ _ (digits_value 10 word) r (all_digits word good) room (parse_plain numerals 64 word r h (no_plus word good)) in
+    spelled_decimal digits word (digits_value 10 word) r good few read

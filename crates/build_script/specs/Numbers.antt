@@ -15,6 +15,10 @@ digits_in word = if starts_with_minus word then drop 1 word else word
 abbrev pub is_number : List ℕ → Bool
 is_number word = nat_le 1 (length (digits_in word)) && (nat_le (length (digits_in word)) 18 && list_all is_ascii_digit (digits_in word))
 
+-- a word is decimal digits: at least one, and at most so many
+abbrev pub is_decimal : ℕ → List ℕ → Bool
+is_decimal digits word = nat_le 1 (length word) && (nat_le (length word) digits && list_all is_ascii_digit word)
+
 -- the number that a word spells
 abbrev pub number_of : List ℕ → ℤ
 number_of word = if starts_with_minus word then neg_ℤ (pos (digits_value 10 (drop 1 word))) else pos (digits_value 10 word)

@@ -20,4 +20,5 @@ mod within;
 
 pub use commands::{Command, Entry, Script};
 pub use fault::{Kind, ScriptFault};
+pub use numbers::decimal_number;
 pub use reading::read_script;

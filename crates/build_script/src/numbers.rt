@@ -1,8 +1,9 @@
 // The numbers of a script: how a word spells one, and the bounds that each has.
-ghost use Rattle.std.specs.Prelude.{◌≡◌, ◌≤ℤ◌, IfOk, Some, None, if◌then◌else◌};
+ghost use Rattle.std.specs.Prelude.{◌≡◌, ◌≤◌, ◌≤ℤ◌, IfOk, Some, None, if◌then◌else◌};
 ghost use Rattle.std.specs.List.{list_all};
 ghost use Rattle.std.specs.Char.{is_ascii_digit};
-ghost use Rattle.build_script.specs.Numbers.{digits_in, in_bounds, is_number, number_of, number_within, units_within, value_within};
+ghost use Rattle.std.specs.Str.Parse.{digits_value};
+ghost use Rattle.build_script.specs.Numbers.{digits_in, in_bounds, is_decimal, is_number, number_of, number_within, units_within, value_within};
 ghost use Rattle.build_script.specs.Steps.{value_bounds};
 
 use crate::fault::Kind;
@@ -30,6 +31,20 @@ fn are_digits(bytes: &[u8]) -> bool
     ensures { result ≡ list_all is_ascii_digit bytes.now }
 {
     bytes.iter().all(|byte| byte.is_ascii_digit())
+}
+
+/// The number that a word spells in decimal digits alone, so many at most.
+pub fn decimal_number(word: &[u8], digits: usize) -> Option<u64>
+    requires { digits ≤ 18 }
+    ensures { result ≡ (if is_decimal digits word.now then Some (digits_value 10 word.now) else None) }
+{
+    if word.len() > digits || !are_digits(word) {
+        return None;
+    }
+    let Ok(text) = str::from_utf8(word) else {
+        return None;
+    };
+    text.parse().ok()
 }
 
 /// The number that a word spells, by a minus or none and 1 to 18 digits.

@@ -1,4 +1,5 @@
 pub mod Lines
+pub mod Searches
 pub mod Session
 pub mod Costs
 pub mod Seen

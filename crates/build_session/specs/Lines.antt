@@ -5,8 +5,8 @@ use Rattle.game_trait.specs.declared.shown.Shown.{Shown}
 use Rattle.game_trait.specs.declared.shown.Shown.TheVariants.{Live, Halted}
 use Rattle.game_trait.specs.declared.shown.Halt.{Halt}
 use Rattle.game_trait.specs.declared.shown.Halt.TheVariants.{Attack, Button, Special, Sector, Listed, Intercepts, Lifts, Unset, Mover, NoBack, Died, Stomp}
-use Rattle.build_session.specs.declared.details.Ground.{Ground}
-use Rattle.build_session.specs.declared.details.Vitals.{Vitals}
+use Rattle.game_trait.specs.declared.details.Ground.{Ground}
+use Rattle.game_trait.specs.declared.details.Vitals.{Vitals}
 
 -- why a world is halted
 abbrev pub halt_text : Halt → List ℕ

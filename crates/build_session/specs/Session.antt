@@ -16,8 +16,8 @@ use Rattle.build_edits.specs.Parts.{Parts}
 use Rattle.build_edits.specs.Edits.{Outcome, seek_outcome, put_outcome, insert_outcome, delete_outcome, cut_outcome, repeat_outcome}
 use Rattle.build_edits.specs.declared.fault.EditFault.{EditFault}
 use Rattle.build_edits.specs.declared.fault.EditFault.TheVariants.{TooLong}
-use Rattle.build_session.specs.declared.details.Ground.{Ground}
-use Rattle.build_session.specs.declared.details.Vitals.{Vitals}
+use Rattle.game_trait.specs.declared.details.Ground.{Ground}
+use Rattle.game_trait.specs.declared.details.Vitals.{Vitals}
 use Rattle.build_session.specs.declared.show.Form.{Form}
 use Rattle.build_session.specs.declared.show.Form.TheVariants as form
 use Rattle.build_session.specs.Lines.{world_line, ground_line, keys_line, vitals_line, answer_lines}

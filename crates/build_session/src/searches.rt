@@ -1,17 +1,27 @@
 //! Who answers the searches of a session.
 
-ghost use Rattle.std.specs.Prelude.{◌≡◌, ℕ, ◌≤◌, List, Option, IfOk, OnOk};
+ghost use Rattle.std.specs.Prelude.{◌≡◌, ◌≤◌, IfOk, OnOk};
 ghost use Rattle.doom_edge.specs.Costs.{Rises};
-ghost use Rattle.brute_ranges.specs.Space.{Ranges};
-ghost use Rattle.brute_targets.specs.declared.want.Want.{Want};
 ghost use Rattle.brute_run.specs.Search.{first_meeting};
 ghost use Rattle.brute_run.specs.Costs.{search_cost};
+ghost use Rattle.build_session.specs.Searches.{CanSearch, turns_of};
 
 use brute_ranges::Space;
+use brute_run::{first_match, simulate};
 use brute_targets::Wants;
-use doom_edge::{Memory, Steps};
+use doom_edge::{Gate, Memory, Steps};
 use game_trait::Game;
 use std::alloc::Global;
+use std::thread::Threads;
+
+/// Who answers the searches of a session.
+#[derive(Clone, Copy, Debug)]
+pub enum Searcher<'a> {
+    /// So many workers, 1 to 64, on threads of their own.
+    Workers(u32),
+    /// Hands that take their turns under an order of hands below 64, on one thread. It tells how many turns they took.
+    Hands(&'a [u8]),
+}
 
 /// What a search came to.
 #[derive(Clone, Copy, Debug, PartialEq, Eq)]
@@ -22,27 +32,40 @@ pub struct Searched {
     pub turns: Option<u64>,
 }
 
-/// Who answers the searches of a session.
-pub trait Searches<G: Game> {
-    /// How many turns a search from a world takes, where that is told.
-    ghost turns_of: { Self → G → G.World → Ranges → List Want → Option ℕ };
-
-    /// The least number whose sequence meets the targets, played on from the kept world. The kept world keeps its
-    /// meaning.
-    fn search(
-        &self,
-        alloc: Global,
-        game: &G,
-        kept: &mut G::World,
-        space: &Space,
-        wants: &Wants,
-        steps: &mut Steps,
-    ) -> Result<Searched, Memory>
-        requires { G.fits game.now kept.old }
-        ensures first { IfOk result (λ done. done.first ≡ first_meeting G.Game game.now kept.old wants.now space.now) }
-        ensures turns { IfOk result (λ done. done.turns ≡ turns_of self.now game.now kept.old space.now wants.now) }
-        ensures kept { kept.new ≡ kept.old }
-        ensures cost { OnOk result (Rises (search_cost G.Game game.now kept.old wants.now space.now) steps.old.tics steps.new.tics) }
-        ensures tics_never_fall { steps.old.tics ≤ steps.new.tics }
-        ensures pages_never_fall { steps.old.pages ≤ steps.new.pages };
+/// The least number whose sequence meets the targets, played on from the kept world. The kept world keeps its meaning.
+pub fn search<G: Game + Sync, T: Gate + Sync, R: Threads + Sync>(
+    alloc: Global,
+    rt: &R,
+    gate: &T,
+    searcher: &Searcher<'_>,
+    game: &G,
+    kept: &mut G::World,
+    space: &Space,
+    wants: &Wants,
+    steps: &mut Steps,
+) -> Result<Searched, Memory>
+where
+    G::World: Send,
+    requires fits { G.fits game.now kept.old }
+    requires able { CanSearch searcher.now }
+    ensures first { IfOk result (λ done. done.first ≡ first_meeting G.Game game.now kept.old wants.now space.now) }
+    ensures turns { IfOk result (λ done. done.turns ≡ turns_of searcher.now G.Game game.now kept.old space.now wants.now) }
+    ensures kept { kept.new ≡ kept.old }
+    ensures cost { OnOk result (Rises (search_cost G.Game game.now kept.old wants.now space.now) steps.old.tics steps.new.tics) }
+    ensures tics_never_fall { steps.old.tics ≤ steps.new.tics }
+    ensures pages_never_fall { steps.old.pages ≤ steps.new.pages }
+{
+    match searcher {
+        Searcher::Workers(count) => {
+            let first = first_match(alloc, rt, game, kept, space, wants, *count, gate, steps)?;
+            Ok(Searched { first, turns: None })
+        }
+        Searcher::Hands(order) => {
+            let done = simulate(alloc, game, kept, space, wants, order, steps)?;
+            Ok(Searched {
+                first: done.first,
+                turns: Some(done.turns),
+            })
+        }
+    }
 }

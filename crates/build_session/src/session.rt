@@ -1,31 +1,35 @@
 //! A session: a build, and the report of what it has shown and found.
 
-ghost use Rattle.std.specs.Prelude.{◌≡◌, ◌+◌, ◌<◌, ◌≤◌, ◌++◌, [], All, length, Some, Ok, Err, IfOk, IfSome, OnOk, OnErr};
+ghost use Rattle.std.specs.Prelude.{◌≡◌, ℕ, Bool, List, Option, ◌+◌, ◌<◌, ◌≤◌, ◌++◌, [], All, length, Some, Ok, Err, IfOk, IfSome, OnOk, OnErr};
 ghost use Rattle.lmp_codec.specs.Demo.{most_tics};
+ghost use Rattle.lmp_codec.specs.Tics.{HoldsTurns};
+ghost use Rattle.build_script.specs.Script.{HoldsTics};
 ghost use Rattle.key_frames.specs.Frames.{frame_below};
-ghost use Rattle.brute_ranges.specs.Space.{all_sequences, sequence_at};
+ghost use Rattle.brute_ranges.specs.Space.{Ranges, all_sequences, sequence_at};
+ghost use Rattle.brute_targets.specs.declared.want.Want.{Want};
 ghost use Rattle.build_edits.specs.Built.{cursor_of};
 ghost use Rattle.build_edits.specs.Parts.{all_tics};
 ghost use Rattle.build_script.specs.declared.commands.Command.TheVariants as script;
+ghost use Rattle.build_session.specs.Searches.{CanSearch, turns_of};
 ghost use Rattle.build_session.specs.Session.{play_of, accepted, carried, all_carried, shown_in, searched, NamesSectors, HasForm};
 ghost use Rattle.build_session.specs.Costs.{spent, showing, kept_after, all_run, unspent};
 ghost use Rattle.build_session.specs.Lines.{answer_lines};
 ghost use Rattle.build_session.specs.Runs.{state_in, Does, CarriesOut, Ends};
 
-use crate::details::Details;
 use crate::fault::{SessionFault, refused_at};
-use crate::searches::{Searched, Searches};
+use crate::searches::{Searched, Searcher, search};
 use crate::show::{Form, form_line};
 use crate::texts::answer_lines;
 use brute_ranges::Space;
 use brute_targets::Wants;
 use build_edits::{Build, EditFault};
 use build_script::{Command, Script};
-use doom_edge::{Memory, Steps};
-use game_trait::Game;
+use doom_edge::{Gate, Memory, Steps};
+use game_trait::{Details, Game};
 use lmp_codec::{MOST_TICS, Tic};
 use std::alloc::Global;
 use std::marker::Model;
+use std::thread::Threads;
 
 /// A tape that is played in a game, and the report so far: contracts see the build and the report's bytes.
 #[derive(Drop)]
@@ -53,15 +57,10 @@ impl<G: Details> Session<G> {
     }
 
     /// Shows the world at the cursor in a form.
-    fn show<S: Searches<G>>(
-        &mut self,
-        alloc: Global,
-        _searches: &S,
-        form: Form,
-        steps: &mut Steps,
-    ) -> Result<(), EditFault>
+    fn show(&mut self, alloc: Global, form: Form, steps: &mut Steps) -> Result<(), EditFault>
         requires { HasForm (G.has_sector self.old.build.game) form }
-        ensures { Does result (Ok (shown_in (play_of G.Game G.ground_of G.vitals_of (S.turns_of _searches.now)) self.old.build.game form (state_in self.old)))
+        ensures { (turns : G → G.World → Ranges → List Want → Option ℕ)
+            → Does result (Ok (shown_in (play_of G.Game G.ground_of G.vitals_of turns) self.old.build.game form (state_in self.old)))
             (showing (cursor_of self.old.build) self.old.build.reach) self.old self.new steps.old.tics steps.new.tics }
     {
         let world = self.build.world(alloc, steps)?;
@@ -99,17 +98,25 @@ impl<G: Details> Session<G> {
             None => Ok(()),
         }
     }
+}
 
+impl<G: Details + Sync> Session<G>
+where
+    G::World: Send,
+{
     /// Goes on the first sequence that meets the targets.
-    fn go<S: Searches<G>>(
+    fn go<T: Gate + Sync, R: Threads + Sync>(
         &mut self,
         alloc: Global,
-        searches: &S,
+        rt: &R,
+        gate: &T,
+        searcher: &Searcher<'_>,
         space: &Space,
         wants: &Wants,
         steps: &mut Steps,
     ) -> Result<(), EditFault>
-        ensures { let play = play_of G.Game G.ground_of G.vitals_of (S.turns_of searches.now) in
+        requires { CanSearch searcher.now }
+        ensures { let play = play_of G.Game G.ground_of G.vitals_of (turns_of searcher.now G.Game) in
             Does result (searched play self.old.build.game space.now wants.now (state_in self.old))
             (spent play self.old.build.game (script.Go space.now wants.now) (state_in self.old) self.old.build.reach) self.old self.new steps.old.tics steps.new.tics }
     {
@@ -117,20 +124,26 @@ impl<G: Details> Session<G> {
             return Err(EditFault::TooLong);
         }
         let mut kept = self.build.world(alloc, steps)?;
-        let searched = searches.search(alloc, self.build.game(), &mut kept, space, wants, steps)?;
+        let game = self.build.game();
+        let searched = search(
+            alloc, rt, gate, searcher, game, &mut kept, space, wants, steps,
+        )?;
         self.answer(alloc, space, &searched)
     }
 
     /// Carries one command out.
-    fn carry<S: Searches<G>>(
+    fn carry<T: Gate + Sync, R: Threads + Sync>(
         &mut self,
         alloc: Global,
-        searches: &S,
+        rt: &R,
+        gate: &T,
+        searcher: &Searcher<'_>,
         command: &Command,
         steps: &mut Steps,
     ) -> Result<(), EditFault>
-        requires { NamesSectors (G.has_sector self.old.build.game) command.now }
-        ensures { let play = play_of G.Game G.ground_of G.vitals_of (S.turns_of searches.now) in
+        requires able { CanSearch searcher.now }
+        requires there { NamesSectors (G.has_sector self.old.build.game) command.now }
+        ensures { let play = play_of G.Game G.ground_of G.vitals_of (turns_of searcher.now G.Game) in
             Does result (carried play self.old.build.game command.now (state_in self.old))
             (spent play self.old.build.game command.now (state_in self.old) self.old.build.reach) self.old self.new steps.old.tics steps.new.tics }
     {
@@ -141,36 +154,42 @@ impl<G: Details> Session<G> {
             Command::Delete => self.build.delete(),
             Command::Cut => self.build.cut(),
             Command::Repeat(count) => self.build.repeat(*count),
-            Command::Show => self.show(alloc, searches, Form::World, steps),
-            Command::ShowSector(sector) => {
-                self.show(alloc, searches, Form::Sector(*sector), steps)
-            }
-            Command::ShowKeys => self.show(alloc, searches, Form::Keys, steps),
-            Command::ShowHealth => self.show(alloc, searches, Form::Health, steps),
+            Command::Show => self.show(alloc, Form::World, steps),
+            Command::ShowSector(sector) => self.show(alloc, Form::Sector(*sector), steps),
+            Command::ShowKeys => self.show(alloc, Form::Keys, steps),
+            Command::ShowHealth => self.show(alloc, Form::Health, steps),
             Command::Want(_) => Ok(()),
-            Command::Go(space, wants) => self.go(alloc, searches, space, wants, steps),
+            Command::Go(space, wants) => self.go(alloc, rt, gate, searcher, space, wants, steps),
         }
     }
 
-    /// Carries a script out, one command after the other. The first that is refused ends it.
-    pub fn carry_out<S: Searches<G>>(
+    /// Carries a script out, one command after the other. The first that is refused ends it. The gate is called as by
+    /// a search of workers.
+    pub fn carry_out<T: Gate + Sync, R: Threads + Sync>(
         &mut self,
         alloc: Global,
-        searches: &S,
+        rt: &R,
+        gate: &T,
+        searcher: &Searcher<'_>,
         script: &Script,
         steps: &mut Steps,
     ) -> Result<(), SessionFault>
-        requires sectors { All (λ entry. NamesSectors (G.has_sector self.old.build.game) entry.command) script.now }
+        requires able { CanSearch searcher.now }
+        requires there { All (λ entry. NamesSectors (G.has_sector self.old.build.game) entry.command) script.now }
 
         // The session and what was played are what the tables say of the commands in their order.
-        ensures run { CarriesOut result (all_run (play_of G.Game G.ground_of G.vitals_of (S.turns_of searches.now)) self.old.build.game script.now
+        ensures run { CarriesOut result (all_run (play_of G.Game G.ground_of G.vitals_of (turns_of searcher.now G.Game)) self.old.build.game script.now
             (unspent (state_in self.old) self.old.build.reach)) self.old self.new steps.old.tics steps.new.tics }
 
         // The same of the session alone.
-        ensures carried { Ends result (all_carried (play_of G.Game G.ground_of G.vitals_of (S.turns_of searches.now)) self.old.build.game script.now (state_in self.old)) self.new }
+        ensures carried { Ends result (all_carried (play_of G.Game G.ground_of G.vitals_of (turns_of searcher.now G.Game)) self.old.build.game script.now (state_in self.old)) self.new }
+
+        // A demo holds the turns of all tics that are left, where it holds those of the first and of the script.
+        ensures turns { (long : Bool) → HoldsTics long script.now → HoldsTurns long (all_tics self.old.build.tape)
+            → OnOk result (HoldsTurns long (all_tics self.new.build.tape)) }
     {
         for place in 0..script.len() {
-            match self.carry(alloc, searches, script.command(place), steps) {
+            match self.carry(alloc, rt, gate, searcher, script.command(place), steps) {
                 Ok(()) => {}
                 Err(fault) => return Err(refused_at(script.line(place), fault)),
             }

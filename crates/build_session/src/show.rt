@@ -6,9 +6,8 @@ ghost use Rattle.brute_targets.specs.declared.want.Want.{Want};
 ghost use Rattle.game_trait.specs.Shown.{is_halted};
 ghost use Rattle.build_session.specs.Session.{play_of, form_line, HasForm};
 
-use crate::details::Details;
 use crate::texts::{ground_line, keys_line, vitals_line, world_line};
-use game_trait::{Quantity, Shown};
+use game_trait::{Details, Quantity, Shown};
 use std::alloc::{AllocError, Global};
 
 /// What is shown of a world.

@@ -4,9 +4,8 @@ ghost use Rattle.std.specs.Prelude.{◌≡◌, ◌++◌, codes, IfOk, OnOk, stri
 ghost use Rattle.std.specs.Fmt.{decimal, signed_decimal};
 ghost use Rattle.build_session.specs.Lines.{halt_text, exit_text, world_line, ground_line, keys_line, vitals_line, first_line, turns_line, answer_lines};
 
-use crate::details::{Ground, Vitals};
 use crate::searches::Searched;
-use game_trait::{Halt, Shown};
+use game_trait::{Ground, Halt, Shown, Vitals};
 use std::alloc::{AllocError, Global};
 use std::fmt::Write;
 

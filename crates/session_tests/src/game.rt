@@ -2,9 +2,8 @@
 ghost use Rattle.std.specs.Prelude.{pos};
 ghost use Rattle.sample_games.specs.Sample.{opening, after, shown_of, reading_of, acted_of};
 
-use build_session::{Details, Ground, Vitals};
 use doom_edge::{Memory, Steps};
-use game_trait::{Game, Quantity, Shown};
+use game_trait::{Details, Game, Ground, Quantity, Shown, Vitals};
 use lmp_codec::Tic;
 use sample_games::{SampleGame, SampleWorld};
 use std::alloc::Global;

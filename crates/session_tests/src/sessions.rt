@@ -1,15 +1,16 @@
 use crate::game::Rooms;
 use build_edits::EditFault;
 use build_script::read_script;
-use build_session::{Ordered, Session, SessionFault};
-use doom_edge::Steps;
+use build_session::{Searcher, Session, SessionFault};
+use doom_edge::{NoGate, Steps};
 use std::alloc::Global;
 use std::process::Abort;
 use std::test::Fail;
+use std::thread::Threads;
 
 /// Asserts that a script over a demo without tics ends so, with this report, so many tics, and so many played.
 fn expect_session(
-    rt: &impl Abort,
+    rt: &(impl Abort + Threads + Sync),
     alloc: Global,
     text: &[u8],
     fault: Option<SessionFault>,
@@ -20,7 +21,14 @@ fn expect_session(
     let script = read_script(alloc, text, true, false)?;
     let mut session = Session::begin(alloc, Rooms::new(), Vec::new(alloc))?;
     let mut steps = Steps::new();
-    let ended = session.carry_out(alloc, &Ordered::new(b""), &script, &mut steps);
+    let ended = session.carry_out(
+        alloc,
+        rt,
+        &NoGate,
+        &Searcher::Hands(b""),
+        &script,
+        &mut steps,
+    );
     assert_eq!(rt; ended.err(), fault);
     let (told, tics) = session.finish()?;
     assert!(rt; told.as_slice() == report, "{text:?}");

@@ -1,6 +1,7 @@
 use Rattle.build_edits.specs.Edits.{seek_outcome, put_outcome, insert_outcome, delete_outcome, cut_outcome, repeat_outcome}
 use Rattle.build_edits.specs.Built.{cursor_of}
 use Rattle.key_frames.specs.Frames.{frame_below}
+use Rattle.build_session.specs.Searches.{turns_of}
 use Rattle.build_session.proofs.Doing.{may_edit_does, edit_does, nothing_does}
 use Rattle.build_session.proofs.session.Session.carry.Goals as goal
 
@@ -42,3 +43,15 @@ returns-in-Repeat g c =
 
 pub returns-in-Want : goal.returns-in-Want
 returns-in-Want g c = rw c.in-Want.is (nothing_does c.args.self.now c.args.steps.now.tics)
+
+pub returns-in-Show : goal.returns-in-Show
+returns-in-Show g c = rw c.in-Show.is (c.show.ensures (turns_of c.args.searcher.now g.G.Game))
+
+pub returns-in-ShowSector : goal.returns-in-ShowSector
+returns-in-ShowSector g c = rw c.in-ShowSector.is (c.show-in-ShowSector.ensures (turns_of c.args.searcher.now g.G.Game))
+
+pub returns-in-ShowKeys : goal.returns-in-ShowKeys
+returns-in-ShowKeys g c = rw c.in-ShowKeys.is (c.show-in-ShowKeys.ensures (turns_of c.args.searcher.now g.G.Game))
+
+pub returns-in-ShowHealth : goal.returns-in-ShowHealth
+returns-in-ShowHealth g c = rw c.in-ShowHealth.is (c.show-in-ShowHealth.ensures (turns_of c.args.searcher.now g.G.Game))

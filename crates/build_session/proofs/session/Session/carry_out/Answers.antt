@@ -4,9 +4,11 @@ use Rattle.std.proofs.lemmas.List.Elements.{All-get_or}
 use Rattle.build_script.specs.declared.commands.Entry.{Entry}
 use Rattle.build_script.specs.declared.commands.Command.TheVariants.{Delete}
 use Rattle.build_script.specs.declared.commands.Command.{Command}
+use Rattle.build_session.specs.Searches.{turns_of}
 use Rattle.build_session.specs.Session.{play_of, carried, NamesSectors}
 use Rattle.build_session.specs.Costs.{spent}
 use Rattle.build_session.specs.Runs.{state_in, refused_at, Does}
+use Rattle.build_session.proofs.Turns.{script_holds}
 use Rattle.build_session.proofs.Running.{came_start, came_next, came_stop, ends}
 use Rattle.build_session.proofs.session.Session.carry_out.Goals as goal
 
@@ -16,19 +18,19 @@ other = record { line = 0; command = Delete }
 
 pub loop-place-init : goal.loop-place-init
 loop-place-init g c =
-    came_start (play_of g.G.Game g.G.Details.ground_of g.G.Details.vitals_of (g.S.Searches.turns_of c.args.searches.now)) c.args.self.now.build.game c.args.self.now c.args.steps.now.tics
+    came_start (play_of g.G.Game g.G.Details.ground_of g.G.Details.vitals_of (turns_of c.args.searcher.now g.G.Game)) c.args.self.now.build.game c.args.self.now c.args.steps.now.tics
 
-pub carry-requires : goal.carry-requires
-carry-requires g c =
+pub carry-requires-clause-there : goal.carry-requires-clause-there
+carry-requires-clause-there g c =
     let inside : c.loop-place.place < length c.args.script.now = subst (λ len. c.loop-place.place < len) c.len-place-end.ensures c.loop-place-test.true in
     let has = g.G.Details.has_sector in
-    let names = All-get_or (λ (entry : Entry). NamesSectors (has c.args.self.now.build.game) entry.command) c.args.script.now c.loop-place.place other inside c.requires.sectors in
-    rw (c.command.ensures.value other) (subst (λ game. NamesSectors (has game) (get_or c.args.script.now c.loop-place.place other).command) (sym c.loop-place.invariant.spends.game) names)
+    let names = All-get_or (λ (entry : Entry). NamesSectors (has c.args.self.now.build.game) entry.command) c.args.script.now c.loop-place.place other inside c.requires.there in
+    rw (c.command.ensures.value other) (λ lives within. subst (λ game. NamesSectors (has game) (get_or c.args.script.now c.loop-place.place other).command) (sym c.loop-place.invariant.spends.game) names)
 
 pub returns-in-Err-clause-run : goal.returns-in-Err-clause-run
 returns-in-Err-clause-run g c =
     let inside : c.loop-place.place < length c.args.script.now = subst (λ len. c.loop-place.place < len) c.len-place-end.ensures c.loop-place-test.true in
-    let play = play_of g.G.Game g.G.Details.ground_of g.G.Details.vitals_of (g.S.Searches.turns_of c.args.searches.now) in
+    let play = play_of g.G.Game g.G.Details.ground_of g.G.Details.vitals_of (turns_of c.args.searcher.now g.G.Game) in
     let game = c.args.self.now.build.game in
     let does : Does (Err c.in-Err.fault) (carried play game (get_or c.args.script.now c.loop-place.place other).command (state_in c.loop-place.self))
     (spent play game (get_or c.args.script.now c.loop-place.place other).command (state_in c.loop-place.self) c.loop-place.self.build.reach) c.loop-place.self c.carry.new.self c.loop-place.steps.tics c.carry.new.steps.tics =
@@ -43,13 +45,13 @@ returns-in-Err-clause-run g c =
 
 pub returns-in-Err-clause-carried : goal.returns-in-Err-clause-carried
 returns-in-Err-clause-carried g c =
-    let play = play_of g.G.Game g.G.Details.ground_of g.G.Details.vitals_of (g.S.Searches.turns_of c.args.searches.now) in
+    let play = play_of g.G.Game g.G.Details.ground_of g.G.Details.vitals_of (turns_of c.args.searcher.now g.G.Game) in
     ends play c.args.self.now.build.game c.args.script.now c.args.self.now c.carry.new.self (Err c.refused_at.result) c.args.steps.now.tics c.carry.new.steps.tics (returns-in-Err-clause-run g c)
 
 pub loop-place-preserved : goal.loop-place-preserved
 loop-place-preserved g c =
     let inside : c.loop-place.place < length c.args.script.now = subst (λ len. c.loop-place.place < len) c.len-place-end.ensures c.loop-place-test.true in
-    let play = play_of g.G.Game g.G.Details.ground_of g.G.Details.vitals_of (g.S.Searches.turns_of c.args.searches.now) in
+    let play = play_of g.G.Game g.G.Details.ground_of g.G.Details.vitals_of (turns_of c.args.searcher.now g.G.Game) in
     let game = c.args.self.now.build.game in
     let does : Does (Ok tt) (carried play game (get_or c.args.script.now c.loop-place.place other).command (state_in c.loop-place.self))
     (spent play game (get_or c.args.script.now c.loop-place.place other).command (state_in c.loop-place.self) c.loop-place.self.build.reach) c.loop-place.self c.carry.new.self c.loop-place.steps.tics c.carry.new.steps.tics =
@@ -67,5 +69,10 @@ returns-clause-run g c =
 
 pub returns-clause-carried : goal.returns-clause-carried
 returns-clause-carried g c =
-    let play = play_of g.G.Game g.G.Details.ground_of g.G.Details.vitals_of (g.S.Searches.turns_of c.args.searches.now) in
+    let play = play_of g.G.Game g.G.Details.ground_of g.G.Details.vitals_of (turns_of c.args.searcher.now g.G.Game) in
     ends play c.args.self.now.build.game c.args.script.now c.args.self.now c.loop-place.self (Ok tt) c.args.steps.now.tics c.loop-place.steps.tics (returns-clause-run g c)
+
+pub returns-clause-turns : goal.returns-clause-turns
+returns-clause-turns g c long tics held =
+    let play = play_of g.G.Game g.G.Details.ground_of g.G.Details.vitals_of (turns_of c.args.searcher.now g.G.Game) in
+    script_holds play c.args.self.now.build.game long c.args.script.now (state_in c.args.self.now) (state_in c.loop-place.self) (returns-clause-carried g c) tics held
