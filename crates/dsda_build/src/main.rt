@@ -2,13 +2,16 @@
 //! standard error.
 #![tactic(auto)]
 
+mod progress;
 mod tell;
 
+use crate::progress::Progress;
 use crate::tell::{USAGE, VERSION, explain, print};
-use doom_edge::{FileShelf, NoGate, OutSink, Steps};
+use doom_edge::{FileShelf, OutSink, Steps};
 use dsda_cli::{Status, Words, run};
 use std::process::ExitCode;
 use std::rt::Env;
+use std::thread::Threads;
 use std::{env, io};
 
 /// The words after the program's name. One that isn't UTF-8 makes them no command line.
@@ -48,17 +51,18 @@ fn answer(rt: &HostRuntime, text: &str) -> Status {
     }
 }
 
-/// Carries out the words over the real files and the real output.
-fn carry_out(rt: &HostRuntime, words: &Words) -> Status {
+/// Carries out the words over the real files and the real output, with the searches' workers on threads.
+fn carry_out(rt: &HostRuntime, threads: &(impl Threads + Sync), words: &Words) -> Status {
     let mut shelf = FileShelf::new(rt);
     let mut note = OutSink::new(rt);
     let mut steps = Steps::new();
     let status = run(
         rt.alloc(),
+        threads,
         words,
         &mut shelf,
         &mut note,
-        &NoGate,
+        &Progress::new(rt),
         &mut steps,
     );
     let unwritten = note.failure(rt.alloc(), "the report");
@@ -71,11 +75,11 @@ fn carry_out(rt: &HostRuntime, words: &Words) -> Status {
 }
 
 /// The status of the program's words.
-fn status(rt: &HostRuntime) -> Status {
+fn status(rt: &HostRuntime, threads: &(impl Threads + Sync)) -> Status {
     match words_of(rt) {
         Ok(words) => match asked_text(&words) {
             Some(text) => answer(rt, text),
-            None => carry_out(rt, &words),
+            None => carry_out(rt, threads, &words),
         },
         Err(status) => {
             explain(rt, &status, "", false);
@@ -85,5 +89,5 @@ fn status(rt: &HostRuntime) -> Status {
 }
 
 fn main(rt: HostRuntime) -> ExitCode {
-    ExitCode::from(status(&rt).number())
+    ExitCode::from(status(&rt, &rt).number())
 }

@@ -6,6 +6,13 @@ use dsda_cli::Status;
 pub const USAGE: &str = "usage: dsda_build COMMAND
   edit DEMO SCRIPT OUT     edit a demo by a script, and write the new demo to OUT
   level WAD TABLES DEMO    check the level that a demo plays, and tell what it holds
+  build WAD TABLES DEMO SCRIPT OUT [--workers N]
+                           play, show, edit and search a demo by a script, and write the new demo to OUT;
+                           N workers search, 1 to 64 (4 where none are asked for); where DSDA_PROGRESS is 1, a search
+                           shows on standard error how far it has come, as it does on a terminal
+  sim WAD TABLES DEMO SCRIPT OUT ORDER
+                           the same on one thread, with searchers that take turns in ORDER's order
+  gen N                    make the level, tables and demo of a gallery out of a number, play, edit and search it
   --help, -h               print this
   --version                print the program's name and version
 ";
@@ -51,6 +58,6 @@ fn say_written(rt: &HostRuntime, has_put: bool) {
 }
 
 /// Writes a text to standard error. Where that fails, nobody is left to be told.
-fn say(rt: &HostRuntime, text: &str) {
+pub fn say(rt: &HostRuntime, text: &str) {
     let _ = OutSink::new(rt.stderr()).push(text.as_bytes());
 }

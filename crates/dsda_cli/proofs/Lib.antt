@@ -6,4 +6,7 @@ pub mod DemoLemmas
 pub mod StartLemmas
 pub mod EditLemmas
 pub mod JudgingLemmas
+pub mod FindLemmas
+pub mod OrderLemmas
+pub mod PlayLemmas
 pub mod OneAnswer

@@ -5,7 +5,16 @@ use Rattle.fixed_angle.proofs.Order.{one_outcome}
 use Rattle.doom_edge.specs.Devices.{Files}
 use Rattle.dsda_cli.specs.Commands.{inputs_of}
 use Rattle.dsda_cli.specs.Judging.{Judgement, exactly, judged, Then, goes_on, ends}
-use Rattle.dsda_cli.specs.Meaning.{as_demo, scripted, edited, level_in, begun, reported, levelled, text_at, worked, worked_unless, too_large, answer_of, Outcome, Means, misused, unheld, answered}
+use Rattle.cow_world.specs.Flat.{Gridded}
+use Rattle.play_step.specs.Doom.{Setup}
+use Rattle.play_step.specs.Rules.{doom_rules}
+use Rattle.brute_ranges.specs.Space.{Ranges}
+use Rattle.brute_targets.specs.declared.want.Want.{Want}
+use Rattle.build_script.specs.declared.commands.Entry.{Entry}
+use Rattle.build_session.specs.Searches.{untold, turns_of_order}
+use Rattle.gallery_gen.specs.Tables.{tables_bytes}
+use Rattle.gallery_gen.specs.Gallery.{tic_count, wad_bytes, demo_bytes}
+use Rattle.dsda_cli.specs.Meaning.{Read, files_read, set_up, session, built, simulated, gallery_script, generated, as_demo, scripted, edited, level_in, begun, reported, levelled, text_at, worked, worked_unless, too_large, answer_of, Outcome, Means, misused, unheld, answered}
 use Rattle.dsda_cli.specs.declared.command.Command.{Command}
 use Rattle.dsda_cli.specs.declared.command.Command.TheVariants as command
 use Rattle.dsda_cli.specs.declared.command.Input.{Input}
@@ -117,9 +126,40 @@ unfolding levelled
 one_levelled one_map verdict wad tables demo =
     one_then _ _ (one_judged (file_conditions wad) input_fault.Wad) (λ _. one_then _ _ (one_judged (table_conditions tables) input_fault.Tables) (λ _. one_then _ _ (one_demo verdict demo) (λ played. one_then _ _ (one_level_in one_map wad played.header) (λ level. one_reported level (tables_of tables) played.header))))
 
+one_files_read : OneVerdict → (wad tables demo script : List ℕ) → IsOne (files_read wad tables demo script)
+unfolding files_read
+one_files_read verdict wad tables demo script =
+    one_then _ _ (one_judged (file_conditions wad) input_fault.Wad) (λ _. one_then _ _ (one_judged (table_conditions tables) input_fault.Tables) (λ _. one_then _ _ (one_demo verdict demo) (λ played. one_then _ _ (one_exactly _) (λ entries. one_exactly _))))
+
+one_set_up : OneMap → (wad : List ℕ) (tables : Tables) (header : List ℕ) (entries : List Entry) → IsOne (set_up wad tables header entries)
+unfolding set_up
+one_set_up one_map wad tables header entries =
+    one_then _ _ (one_level_in one_map wad header) (λ level. one_then _ _ (one_begun level tables header) (λ _. one_then _ _ (one_exactly _) (λ _. one_exactly _)))
+
+one_session : OneMap → (turns : Setup → Gridded → Ranges → List Want → Option ℕ) (read : Read) → IsOne (session turns read)
+unfolding session
+one_session one_map turns read = one_then _ _ (one_set_up one_map read.wad read.tables read.demo.header read.entries) (λ game. one_exactly _)
+
+one_built : OneMap → OneVerdict → (wad tables demo script : List ℕ) → IsOne (built wad tables demo script)
+unfolding built
+one_built one_map verdict wad tables demo script = one_then _ _ (one_files_read verdict wad tables demo script) (λ read. one_session one_map untold read)
+
+one_simulated : OneMap → OneVerdict → (wad tables demo script order : List ℕ) → IsOne (simulated wad tables demo script order)
+unfolding simulated
+one_simulated one_map verdict wad tables demo script order =
+    one_then _ _ (one_files_read verdict wad tables demo script) (λ read. one_then _ _ (one_exactly _) (λ hands. one_session one_map (turns_of_order doom_rules hands) read))
+
+one_generated : OneMap → OneVerdict → (number : ℕ) → IsOne (generated number)
+unfolding generated
+one_generated one_map verdict number =
+    one_then _ _ (one_built one_map verdict (wad_bytes number) tables_bytes (demo_bytes number) (gallery_script (tic_count number))) (λ work. one_exactly _)
+
 one_worked : OneMap → OneVerdict → (command : Command) (texts : List (List ℕ)) → IsOne (worked command texts)
 one_worked one_map verdict command.Edit texts = one_edited verdict (text_at texts 0) (text_at texts 1)
 one_worked one_map verdict command.Level texts = one_levelled one_map verdict (text_at texts 0) (text_at texts 1) (text_at texts 2)
+one_worked one_map verdict (command.Build workers) texts = one_built one_map verdict (text_at texts 0) (text_at texts 1) (text_at texts 2) (text_at texts 3)
+one_worked one_map verdict command.Sim texts = one_simulated one_map verdict (text_at texts 0) (text_at texts 1) (text_at texts 2) (text_at texts 3) (text_at texts 4)
+one_worked one_map verdict (command.Gen number) texts = one_generated one_map verdict number
 
 one_unless : OneMap → OneVerdict → (command : Command) (texts : List (List ℕ)) (large : Option (Input × List ℕ)) → IsOne (worked_unless command texts large)
 one_unless one_map verdict command texts None = one_worked one_map verdict command texts

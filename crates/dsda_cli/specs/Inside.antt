@@ -26,6 +26,10 @@ use Rattle.build_script.specs.declared.fault.ScriptFault.{ScriptFault}
 use Rattle.build_script.specs.declared.fault.ScriptFault.TheVariants as script_fault
 use Rattle.build_edits.specs.declared.fault.EditFault.{EditFault}
 use Rattle.build_edits.specs.declared.fault.EditFault.TheVariants as edit_fault
+use Rattle.build_session.specs.declared.fault.SessionFault.{SessionFault}
+use Rattle.build_session.specs.declared.fault.SessionFault.TheVariants as session_fault
+use Rattle.dsda_cli.specs.declared.order.OrderFault.{OrderFault}
+use Rattle.dsda_cli.specs.declared.order.OrderFault.TheVariants as order_fault
 use Rattle.dsda_cli.specs.Commands.{word_at}
 use Rattle.dsda_cli.specs.Refusal.{line_of}
 use Rattle.dsda_cli.specs.Judging.{Judgement}
@@ -77,6 +81,16 @@ stop_of_script script_fault.Memory = stop.Memory
 abbrev pub stop_of_edit : ℕ → EditFault → Stop
 stop_of_edit line edit_fault.Memory = stop.Memory
 stop_of_edit line fault = stop.Refused (input_fault.Edit line fault)
+
+-- an order file's fault as an end of the work
+abbrev pub stop_of_order : OrderFault → Stop
+stop_of_order (order_fault.At place) = stop.Refused (input_fault.Order place)
+stop_of_order order_fault.Memory = stop.Memory
+
+-- why a script is not carried out to its end, as an end of the work
+abbrev pub stop_of_session : SessionFault → Stop
+stop_of_session (session_fault.Edit line fault) = stop_of_edit line fault
+stop_of_session session_fault.Memory = stop.Memory
 
 -- a right answer, where what was returned is seen by `view`, or nothing where there was no memory
 abbrev pub IsRight : {A B : Type 0} → (A → B) → Judgement B → Result A Stop → Type 0

@@ -14,8 +14,12 @@ pub use Rattle.cow_world.specs.Fits
 pub use Rattle.build_script.specs.Script
 pub use Rattle.build_edits.specs.Parts
 pub use Rattle.build_edits.specs.Edits
+pub use Rattle.play_step.specs.Rules
+pub use Rattle.build_session.specs.Session
+pub use Rattle.build_session.specs.Searches
 pub mod Refusal
 pub mod Commands
+pub mod Order
 pub mod Judging
 pub mod LevelReport
 pub mod Meaning

@@ -1,7 +1,8 @@
 -- What a command line means: what its words come to over the files that they name. It knows nothing of the order in
 -- which files are taken, put and pushed.
-use Rattle.std.specs.Prelude.{◌≡◌, ℕ, Bool, false, map, fold, Result, Ok, Err, Option, Some, None, List, [], ◌∷◌, length, nat_lt, option_map, find, slice_get, unwrap_or}
+use Rattle.std.specs.Prelude.{◌≡◌, ℕ, Bool, true, false, not, map, fold, Result, Ok, Err, Option, Some, None, List, [], ◌∷◌, ◌++◌, codes, length, nat_lt, option_map, find, slice_get, unwrap_or, All}
 use Rattle.std.specs.List.{zip}
+use Rattle.std.specs.Fmt.{decimal}
 use Rattle.std.specs.FinMap as map
 use Rattle.doom_edge.specs.Devices.{Files}
 use Rattle.doom_edge.specs.Costs.{Cost, free}
@@ -18,6 +19,9 @@ use Rattle.map_geometry.specs.Lists.{Lists}
 use Rattle.map_load.specs.Load.{level_conditions}
 use Rattle.map_load.specs.Spelled.{spelled}
 use Rattle.cow_world.specs.Flat.{Gridded}
+use Rattle.brute_ranges.specs.Space.{Ranges}
+use Rattle.brute_targets.specs.declared.want.Want.{Want}
+use Rattle.brute_targets.specs.declared.want.Want.TheVariants as want
 use Rattle.level_start.specs.Start.{start_fault, start_of}
 use Rattle.level_start.specs.declared.fault.StartFault.{StartFault}
 use Rattle.build_script.specs.Script.{script_of}
@@ -28,6 +32,15 @@ use Rattle.build_script.specs.declared.commands.Command.TheVariants as script
 use Rattle.build_edits.specs.Parts.{Parts, all_tics}
 use Rattle.build_edits.specs.Edits.{seek_outcome, put_outcome, insert_outcome, delete_outcome, cut_outcome, repeat_outcome}
 use Rattle.build_edits.specs.declared.fault.EditFault.{EditFault}
+use Rattle.play_step.specs.Doom.{Setup}
+use Rattle.play_step.specs.Rules.{doom_rules, HasSector, ground_of, vitals_of}
+use Rattle.build_session.specs.Session.{Play, State, play_of, all_carried, NamesSectors}
+use Rattle.build_session.specs.Costs.{Run, all_run, unspent}
+use Rattle.build_session.specs.Searches.{untold, turns_of_order}
+use Rattle.gallery_gen.specs.Plan.{room_count}
+use Rattle.gallery_gen.specs.Tables.{tables_bytes}
+use Rattle.gallery_gen.specs.Gallery.{tic_count, wad_bytes, demo_bytes}
+use Rattle.dsda_cli.specs.Order.{order_of}
 use Rattle.dsda_cli.specs.Commands.{word_at, command_of, inputs_of, out_name}
 use Rattle.dsda_cli.specs.LevelReport.{episode_of, map_of, level_lines}
 use Rattle.dsda_cli.specs.Judging.{Judgement, exactly, judged, such_that, ◌>>=◌, ◌>>◌}
@@ -140,6 +153,120 @@ levelled wad tables demo = do
   level ← level_in wad played.header
   reported level (tables_of tables) played.header
 
+-- ---- sessions
+
+-- what the files of a session are read as
+pub record Read : Type 0 where
+  pub wad : List ℕ
+  pub tables : Tables
+  pub demo : Demo
+  pub entries : List Entry
+
+-- the WAD, the tables, the demo and the script, each by itself
+unfoldable pub files_read : List ℕ → List ℕ → List ℕ → List ℕ → Judgement Read
+files_read wad tables demo script = do
+  judged (file_conditions wad) input_fault.Wad
+  judged (table_conditions tables) input_fault.Tables
+  played ← as_demo demo
+  entries ← exactly (as_script (script_of true (is_long played.header) script))
+  exactly (Ok (record { wad = wad; tables = tables_of tables; demo = played; entries = entries }))
+
+-- whether the level has the sector or the line that a command names, if it names one
+abbrev pub has_named : Lists → Edit → Bool
+has_named level (script.ShowSector sector) = nat_lt sector (length level.sectors)
+has_named level (script.Want (want.Line line)) = nat_lt line (length level.lines)
+has_named level other = true
+
+-- the first command that names what isn't there
+abbrev pub misnamed : Lists → List Entry → Option Entry
+misnamed level entries = find (λ entry. not (has_named level entry.command)) entries
+
+abbrev pub named_unless : Option Entry → Result (Unit {0}) InputFault
+named_unless None = Ok tt
+named_unless (Some entry) = Err (input_fault.Name entry.line)
+
+-- The game that a demo plays: its level starts, and has all that the script names.
+unfoldable pub set_up : List ℕ → Tables → List ℕ → List Entry → Judgement Setup
+set_up wad tables header entries = do
+  level ← level_in wad header
+  begun level tables header
+  exactly (named_unless (misnamed level entries))
+  exactly (Ok (record { level = level; tables = tables; header = header }))
+
+-- all sectors that a script names are there
+abbrev pub AllThere : Setup → List Entry → Type 0
+AllThere setup entries = All (λ entry. NamesSectors (HasSector setup) entry.command) entries
+
+-- The rules of the game, what is shown of its worlds, and how many turns a search takes, where that is told.
+abbrev pub play_with : (Setup → Gridded → Ranges → List Want → Option ℕ) → Play Setup Gridded
+play_with turns = play_of doom_rules ground_of vitals_of turns
+
+-- a session of a demo's tics, with the cursor at its start and nothing told
+abbrev pub fresh : List Tic → State
+fresh tics = record { tape = record { before = []; after = tics }; report = [] }
+
+-- what is reported and put where the session ends so; a refusal is that of its line
+abbrev pub ended_as : List ℕ → Result State (ℕ × EditFault) → Cost → Result Work InputFault
+ended_as header (Ok state) cost = Ok (with_cost (record { report = state.report; demo = Some (written header (all_tics state.tape)) }) cost)
+ended_as header (Err refused) cost = Err (input_fault.Edit refused.0 refused.1)
+
+-- the tics that were played, where the script was carried out to its end
+abbrev pub cost_of : Result Run (ℕ × EditFault) → Cost
+cost_of (Ok run) = run.spent.cost
+cost_of (Err refused) = free
+
+-- the script carried out on the demo's tics, in the game that is played so: by plain replays, and at what it costs
+abbrev pub carried_in : Play Setup Gridded → Setup → List Tic → List Entry → Result Work InputFault
+carried_in play game tics entries =
+    ended_as game.header (all_carried play game entries (fresh tics)) (cost_of (all_run play game entries (unspent (fresh tics) 0)))
+
+-- a session over what was read
+unfoldable pub session : (Setup → Gridded → Ranges → List Want → Option ℕ) → Read → Judgement Work
+session turns read = do
+  game ← set_up read.wad read.tables read.demo.header read.entries
+  exactly (carried_in (play_with turns) game read.demo.tics read.entries)
+
+-- `build`: the demo as the script makes it, and what was shown and found. Who searches makes no difference.
+unfoldable pub built : List ℕ → List ℕ → List ℕ → List ℕ → Judgement Work
+built wad tables demo script = do
+  read ← files_read wad tables demo script
+  session untold read
+
+-- an order file; its fault is the input's
+abbrev pub as_order : Result (List ℕ) ℕ → Result (List ℕ) InputFault
+as_order (Ok hands) = Ok hands
+as_order (Err place) = Err (input_fault.Order place)
+
+-- `sim`: the same, and with each answer of a search the number of turns that its hands take under the order
+unfoldable pub simulated : List ℕ → List ℕ → List ℕ → List ℕ → List ℕ → Judgement Work
+simulated wad tables demo script order = do
+  read ← files_read wad tables demo script
+  hands ← exactly (as_order (order_of order))
+  session (turns_of_order doom_rules hands) read
+
+-- ---- galleries
+
+-- the line of a gallery: its number, its rooms, and the tics of its demo
+unfoldable pub gallery_line : ℕ → List ℕ
+gallery_line number =
+    codes "gen " ++ decimal number ++ codes " rooms " ++ decimal (room_count number) ++ codes " tics " ++ decimal (tic_count number) ++ codes "\n"
+
+-- The script of a gallery of so many tics: the demo is shown at its end, before and after a tic is edited, and then a
+-- search goes on from there.
+unfoldable pub gallery_script : ℕ → List ℕ
+gallery_script tics =
+    codes "seek " ++ decimal tics
+    ++ codes "\nshow\nseek 10\nput 0 0 0 0\nseek " ++ decimal tics
+    ++ codes "\nshow\nbrute 3\nrange all forward 40 50\nrange all side -2 2\nwant momx > 0\ngo\nshow\n"
+
+-- `gen`: what a `build` of a gallery's files and script reports, behind the gallery's line. No demo is put.
+unfoldable pub generated : ℕ → Judgement Work
+generated number = do
+  work ← built (wad_bytes number) tables_bytes (demo_bytes number) (gallery_script (tic_count number))
+  exactly (Ok (with_cost (record { report = gallery_line number ++ work.output.report; demo = None }) work.cost))
+
+-- ---- command lines
+
 -- the text of the input at a place
 abbrev pub text_at : List (List ℕ) → ℕ → List ℕ
 text_at texts place = unwrap_or (slice_get texts place) []
@@ -148,6 +275,9 @@ text_at texts place = unwrap_or (slice_get texts place) []
 abbrev pub worked : Command → List (List ℕ) → Judgement Work
 worked command.Edit texts = edited (text_at texts 0) (text_at texts 1)
 worked command.Level texts = levelled (text_at texts 0) (text_at texts 1) (text_at texts 2)
+worked (command.Build workers) texts = built (text_at texts 0) (text_at texts 1) (text_at texts 2) (text_at texts 3)
+worked command.Sim texts = simulated (text_at texts 0) (text_at texts 1) (text_at texts 2) (text_at texts 3) (text_at texts 4)
+worked (command.Gen number) texts = generated number
 
 -- the first input whose text is above its limit
 abbrev pub too_large : List Input → List (List ℕ) → Option (Input × List ℕ)

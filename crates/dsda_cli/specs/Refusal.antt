@@ -22,7 +22,7 @@ use Rattle.build_edits.specs.declared.fault.EditFault.{EditFault}
 use Rattle.build_edits.specs.declared.fault.EditFault.TheVariants.{Place, Before, TooLong}
 use Rattle.build_edits.specs.declared.fault.EditFault.TheVariants as edit_fault
 use Rattle.dsda_cli.specs.declared.fault.InputFault.{InputFault}
-use Rattle.dsda_cli.specs.declared.fault.InputFault.TheVariants.{Large, Wad, Tables, Demo, Script, Level, Start, Edit}
+use Rattle.dsda_cli.specs.declared.fault.InputFault.TheVariants.{Large, Wad, Tables, Demo, Script, Order, Level, Start, Name, Edit}
 
 -- what is said of a WAD and of a map in it (of want of memory nothing ever is)
 abbrev pub wad_text : WadFault → List ℕ
@@ -87,8 +87,10 @@ text_of (Wad fault) = wad_text fault
 text_of (Tables fault) = tables_text fault
 text_of (Demo fault) = demo_text fault
 text_of (Script line kind) = codes "line " ++ decimal line ++ codes ": " ++ kind_text kind
+text_of (Order place) = codes "order at " ++ decimal place
 text_of (Level fault) = level_text fault
 text_of (Start fault) = start_text fault
+text_of (Name line) = codes "line " ++ decimal line ++ codes ": name"
 text_of (Edit line fault) = codes "line " ++ decimal line ++ codes ": " ++ edit_text fault
 
 -- the line that stands in place of the report

@@ -7,10 +7,9 @@ ghost use Rattle.build_edits.specs.Parts.{all_tics};
 ghost use Rattle.build_edits.specs.Edits.{MayEdit};
 ghost use Rattle.dsda_cli.specs.Judging.{exactly};
 ghost use Rattle.dsda_cli.specs.Meaning.{as_script, scripted, edits_of, edited_by};
-ghost use Rattle.dsda_cli.specs.Inside.{Gives, stop_of_edit};
+ghost use Rattle.dsda_cli.specs.Inside.{Gives};
 
-use crate::fault::{InputFault, Refused};
-use crate::product::Stop;
+use crate::product::{Stop, stop_of_edit};
 use build_edits::{EditFault, Tape};
 use build_script::{Command, Script, read_script};
 use lmp_codec::Tics;
@@ -69,15 +68,5 @@ fn edit(command: &Command, tape: &mut Tape) -> Result<(), EditFault>
         Command::ShowHealth => Ok(()),
         Command::Want(_) => Ok(()),
         Command::Go(_, _) => Ok(()),
-    }
-}
-
-/// The end of the work where the command of a line is refused.
-fn stop_of_edit(line: u32, fault: EditFault) -> Stop
-    ensures { result ≡ stop_of_edit line fault }
-{
-    match fault {
-        EditFault::Memory => Stop::Memory,
-        refused => Stop::Refused(InputFault::Edit(line, Refused::new(refused))),
     }
 }

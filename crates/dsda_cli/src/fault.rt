@@ -102,10 +102,14 @@ pub enum InputFault {
     Demo(Refused<DemoFault>),
     #[error("the script is faulty")]
     Script(u32, Kind),
+    #[error("the order file is faulty")]
+    Order(usize),
     #[error("the level is faulty")]
     Level(Refused<LevelFault>),
     #[error("the level can't be started")]
     Start(Refused<StartFault>),
+    #[error("the script names what isn't there")]
+    Name(u32),
     #[error("an edit is refused")]
     Edit(u32, Refused<EditFault>),
 }

@@ -11,6 +11,7 @@ use crate::words::Words;
 use doom_edge::{Gate, MemShelf, Steps, SureSink};
 use lmp_codec::laws::one_verdict;
 use std::alloc::Global;
+use std::thread::Threads;
 use wad_lumps::one_answer;
 
 /// A command line comes to one outcome over the files that it names.
@@ -23,8 +24,9 @@ pub fn one_meaning()
 
 /// Over a new shelf in memory, no call of which is to fail, and a sink that never fails, a run ends as the words and the
 /// files come to, or for want of memory.
-pub fn run_in_memory<G: Gate + Sync>(
+pub fn run_in_memory<G: Gate + Sync, R: Threads + Sync>(
     alloc: Global,
+    rt: &R,
     words: &Words,
     files: Vec<(String, Vec<u8>)>,
     gate: &G,
@@ -34,5 +36,5 @@ pub fn run_in_memory<G: Gate + Sync>(
 {
     let mut shelf = MemShelf::new(files, Vec::new(alloc), Vec::new(alloc));
     let mut note = SureSink::new(alloc);
-    run(alloc, words, &mut shelf, &mut note, gate, steps)
+    run(alloc, rt, words, &mut shelf, &mut note, gate, steps)
 }

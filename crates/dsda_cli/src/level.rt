@@ -55,7 +55,7 @@ fn report(
 
 /// The level of the map that the demo's header names.
 #[tactic(auto, unfolding(crate::specs::Meaning::level_in))]
-fn level_in(alloc: Global, wad: &Wad, header: &Header) -> Result<Level, Stop>
+pub fn level_in(alloc: Global, wad: &Wad, header: &Header) -> Result<Level, Stop>
     ensures { Gives (λ level. level) result (level_in wad.now header.now) }
 {
     let found = find_map(alloc, wad, header)?;

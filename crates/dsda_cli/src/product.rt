@@ -1,8 +1,12 @@
 // What a command gives, and why it stops before that.
 ghost use Rattle.std.specs.Prelude.{◌≡◌};
+ghost use Rattle.dsda_cli.specs.Inside.{stop_of_edit};
 
 use crate::fault::{InputFault, Refused};
+use crate::order::OrderFault;
+use build_edits::EditFault;
 use build_script::ScriptFault;
+use build_session::SessionFault;
 use doom_edge::Memory;
 use fixed_angle::TabFault;
 use level_start::StartFault;
@@ -106,6 +110,34 @@ impl From<LevelFault> for Stop {
     }
 }
 
+impl From<OrderFault> for Stop {
+    ghost use Rattle.std.specs.Prelude.{◌≡◌};
+    ghost use Rattle.dsda_cli.specs.Inside.{stop_of_order};
+
+    ghost from_gives = { λ fault stop. stop ≡ stop_of_order fault };
+
+    fn from(fault: OrderFault) -> Self {
+        match fault {
+            OrderFault::At(place) => Stop::Refused(InputFault::Order(place)),
+            OrderFault::Memory => Stop::Memory,
+        }
+    }
+}
+
+impl From<SessionFault> for Stop {
+    ghost use Rattle.std.specs.Prelude.{◌≡◌};
+    ghost use Rattle.dsda_cli.specs.Inside.{stop_of_session};
+
+    ghost from_gives = { λ fault stop. stop ≡ stop_of_session fault };
+
+    fn from(fault: SessionFault) -> Self {
+        match fault {
+            SessionFault::Edit(line, fault) => stop_of_edit(line, fault),
+            SessionFault::Memory => Stop::Memory,
+        }
+    }
+}
+
 impl From<StartFault> for Stop {
     ghost use Rattle.std.specs.Prelude.{◌≡◌};
     ghost use Rattle.dsda_cli.specs.Inside.{stop_of_start};
@@ -139,5 +171,15 @@ impl From<lmp_codec::Memory> for Stop {
 
     fn from(_: lmp_codec::Memory) -> Self {
         Stop::Memory
+    }
+}
+
+/// The end of the work where the command of a line is refused.
+pub fn stop_of_edit(line: u32, fault: EditFault) -> Stop
+    ensures { result ≡ stop_of_edit line fault }
+{
+    match fault {
+        EditFault::Memory => Stop::Memory,
+        refused => Stop::Refused(InputFault::Edit(line, Refused::new(refused))),
     }
 }

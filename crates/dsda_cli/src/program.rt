@@ -2,7 +2,7 @@
 ghost use Rattle.std.specs.Prelude.{◌≡◌, ◌≤◌, ◌↔◌, Some, None, option_map, IfOk, IfSome};
 ghost use Rattle.doom_edge.specs.Costs.{free};
 ghost use Rattle.dsda_cli.specs.Refusal.{line_of};
-ghost use Rattle.dsda_cli.specs.Commands.{command_of};
+ghost use Rattle.dsda_cli.specs.Commands.{HasWorkers, command_of};
 ghost use Rattle.dsda_cli.specs.Meaning.{Reported, put_under};
 ghost use Rattle.dsda_cli.specs.Ending.{seen, moment, EndsAs, Ends, IsLater, IsQuiet, Answers};
 ghost use Rattle.dsda_cli.specs.Inside.{got, EndsBy, TellsRefusal};
@@ -18,16 +18,18 @@ use crate::words::Words;
 use crate::work::judge;
 use doom_edge::{Gate, Shelf, Sink, Steps};
 use std::alloc::Global;
+use std::thread::Threads;
 
 /// Carries out the command that the words ask for: takes its inputs in the order of the words, puts the demo that they
 /// come to, where there is one, and pushes the report, or the line of a refusal in its place.
 #[tactic(auto, using(crate::proofs::EndLemmas::ends_answers))]
-pub fn run<S: Shelf, N: Sink, G: Gate + Sync>(
+pub fn run<S: Shelf, N: Sink, G: Gate + Sync, R: Threads + Sync>(
     alloc: Global,
+    rt: &R,
     words: &Words,
     shelf: &mut S,
     note: &mut N,
-    _gate: &G,
+    gate: &G,
     steps: &mut Steps,
 ) -> Status
     // The words are no command line, and then nothing is touched.
@@ -45,36 +47,35 @@ pub fn run<S: Shelf, N: Sink, G: Gate + Sync>(
 
     // So it is where no device fails but for a name that isn't held.
     ensures certain { S.sure shelf.old → N.sure note.old → Answers words.now (S.holds shelf.old) result }
-
-    // No step is counted, since no command plays a tic yet.
-    ensures steps { steps.new ≡ steps.old }
 {
     match command_of(words) {
-        Some(command) => carry_out(alloc, command, words, shelf, note, steps),
+        Some(command) => carry_out(alloc, rt, gate, command, words, shelf, note, steps),
         None => Status::Usage,
     }
 }
 
 /// Takes the inputs of the command, judges them, and puts and pushes what they come to.
-fn carry_out<S: Shelf, N: Sink>(
+fn carry_out<S: Shelf, N: Sink, G: Gate + Sync, R: Threads + Sync>(
     alloc: Global,
+    rt: &R,
+    gate: &G,
     command: Command,
     words: &Words,
     shelf: &mut S,
     note: &mut N,
     steps: &mut Steps,
 ) -> Status
-    requires { command_of words.now ≡ Some command }
+    requires asked { command_of words.now ≡ Some command }
+    requires able { HasWorkers command }
     ensures ends { Ends (S.sure shelf.old × N.sure note.old) words.now
         (moment S.Shelf N.Sink shelf.old note.old steps.old.tics) (moment S.Shelf N.Sink shelf.new note.new steps.new.tics) result }
-    ensures steps { steps.new ≡ steps.old }
     ensures used { result ≡ Status.Usage → ⊥ }
 {
     let taken = take_all(alloc, inputs_of(command), words, shelf);
     match taken {
         Ok(texts) => conclude(
             alloc,
-            judge(alloc, command, texts, steps),
+            judge(alloc, rt, gate, command, texts, steps),
             out_name(words, command),
             shelf,
             note,

@@ -29,8 +29,10 @@ pub fn refusal_text(alloc: Global, fault: &InputFault) -> Result<Vec<u8>, Memory
             let kind = kind_text(*kind);
             format!(in alloc; "line {line}: {kind}")
         }
+        InputFault::Order(place) => format!(in alloc; "order at {place}"),
         InputFault::Level(refused) => level_text(alloc, refused),
         InputFault::Start(refused) => start_text(alloc, refused),
+        InputFault::Name(line) => format!(in alloc; "line {line}: name"),
         InputFault::Edit(line, refused) => {
             let text = edit_text(alloc, refused)?;
             format!(in alloc; "line {line}: {text}")

@@ -1,42 +1,41 @@
 // What a command makes of the texts of its inputs.
 ghost use Rattle.std.specs.Prelude.{◌≡◌, ◌≢◌, ℕ, map, option_map};
 ghost use Rattle.doom_edge.specs.Costs.{free};
+ghost use Rattle.dsda_cli.specs.Commands.{HasWorkers};
 ghost use Rattle.dsda_cli.specs.Meaning.{with_cost, edited, worked, answer_of, too_large, text_at};
 ghost use Rattle.dsda_cli.specs.Inside.{Gives, Takes};
 
 use crate::command::{Command, Input, inputs_of};
 use crate::edits::scripted;
 use crate::fault::InputFault;
+use crate::galleries::generate;
 use crate::inputs;
 use crate::level::level;
 use crate::product::{Product, Stop};
-use doom_edge::Steps;
+use crate::sessions::{build, sim};
+use doom_edge::{Gate, Steps};
 use lmp_codec::{Demo, write_demo};
 use std::alloc::Global;
 use std::mem;
+use std::thread::Threads;
 
-/// What the command makes of these texts, or their first fault. Neither of today's commands plays a tic.
-pub fn judge(
+/// What the command makes of these texts, or their first fault. A text above its limit is refused before any is read.
+#[tactic(auto, using(crate::proofs::JudgingLemmas::takes_free))]
+pub fn judge<G: Gate + Sync, R: Threads + Sync>(
     alloc: Global,
+    rt: &R,
+    gate: &G,
     command: Command,
     texts: Vec<Vec<u8>>,
     steps: &mut Steps,
 ) -> Result<Product, Stop>
-    ensures takes { Takes with_cost result (answer_of command (map (λ text. text.items) texts.items)) steps.old.tics steps.new.tics }
-    ensures steps { steps.new ≡ steps.old }
-{
-    let _ = steps;
-    answer(alloc, command, texts)
-}
-
-/// What the command makes of these texts without playing a tic. A text above its limit is refused before any is read.
-fn answer(alloc: Global, command: Command, texts: Vec<Vec<u8>>) -> Result<Product, Stop>
-    ensures { Gives (λ output. with_cost output free) result (answer_of command (map (λ text. text.items) texts.items)) }
+    requires { HasWorkers command }
+    ensures { Takes with_cost result (answer_of command (map (λ text. text.items) texts.items)) steps.old.tics steps.new.tics }
 {
     if let Some(word) = too_large(inputs_of(command), &texts) {
         return Err(Stop::Refused(InputFault::Large(word)));
     }
-    work(alloc, command, texts)
+    work(alloc, rt, gate, command, texts, steps)
 }
 
 /// The word of the first input whose text is above its limit.
@@ -73,8 +72,17 @@ fn take_text(alloc: Global, texts: &mut Vec<Vec<u8>>, place: usize) -> Vec<u8>
 }
 
 /// What the command makes of texts within their limits.
-fn work(alloc: Global, command: Command, mut texts: Vec<Vec<u8>>) -> Result<Product, Stop>
-    ensures { Gives (λ output. with_cost output free) result (worked command (map (λ text. text.items) texts.items)) }
+#[tactic(auto, using(crate::proofs::JudgingLemmas::takes_free))]
+fn work<G: Gate + Sync, R: Threads + Sync>(
+    alloc: Global,
+    rt: &R,
+    gate: &G,
+    command: Command,
+    mut texts: Vec<Vec<u8>>,
+    steps: &mut Steps,
+) -> Result<Product, Stop>
+    requires { HasWorkers command }
+    ensures { Takes with_cost result (worked command (map (λ text. text.items) texts.items)) steps.old.tics steps.new.tics }
 {
     match command {
         Command::Edit => edit(alloc, text_at(&texts, 0), text_at(&texts, 1)),
@@ -82,6 +90,35 @@ fn work(alloc: Global, command: Command, mut texts: Vec<Vec<u8>>) -> Result<Prod
             let wad = take_text(alloc, &mut texts, 0);
             level(alloc, wad, text_at(&texts, 1), text_at(&texts, 2))
         }
+        Command::Build(workers) => {
+            let wad = take_text(alloc, &mut texts, 0);
+            let (tables, demo, script) = (
+                text_at(&texts, 1),
+                text_at(&texts, 2),
+                text_at(&texts, 3),
+            );
+            build(alloc, rt, gate, workers, wad, tables, demo, script, steps)
+        }
+        Command::Sim => {
+            let wad = take_text(alloc, &mut texts, 0);
+            let (tables, demo, script) = (
+                text_at(&texts, 1),
+                text_at(&texts, 2),
+                text_at(&texts, 3),
+            );
+            sim(
+                alloc,
+                rt,
+                gate,
+                wad,
+                tables,
+                demo,
+                script,
+                text_at(&texts, 4),
+                steps,
+            )
+        }
+        Command::Gen(number) => generate(alloc, rt, gate, number, steps),
     }
 }
 

@@ -4,6 +4,7 @@ use sample_inputs::HEADER;
 use std::alloc::{AllocError, Global};
 use std::process::Abort;
 use std::test::Fail;
+use std::thread::Threads;
 
 /// The words of an edit.
 const EDIT: [&str; 4] = ["edit", "in.lmp", "script", "out.lmp"];
@@ -23,6 +24,7 @@ fn with_header(alloc: Global, header: &[u8], behind: &[u8]) -> Result<Vec<u8>, A
 
 /// Runs the words over a demo and a script.
 fn ran(
+    rt: &(impl Threads + Sync),
     alloc: Global,
     words: &[&str],
     demo: &[u8],
@@ -30,6 +32,7 @@ fn ran(
     failing: Failing,
 ) -> Result<Left, Fail> {
     ran_over(
+        rt,
         alloc,
         words,
         &[("in.lmp", demo), ("script", script)],
@@ -42,7 +45,7 @@ type Edits<'a> = &'a [(&'a [u8], &'a [u8], &'a [u8])];
 
 /// Asserts that each script leaves these tics of these behind this header, and that there is nothing to report.
 fn expect_edits(
-    rt: &impl Abort,
+    rt: &(impl Abort + Threads + Sync),
     alloc: Global,
     header: &[u8],
     rows: Edits<'_>,
@@ -50,7 +53,7 @@ fn expect_edits(
     for (behind, script, left_behind) in rows {
         let demo = with_header(alloc, header, behind)?;
         let out = with_header(alloc, header, left_behind)?;
-        let left = ran(alloc, &EDIT, &demo, script, NONE)?;
+        let left = ran(rt, alloc, &EDIT, &demo, script, NONE)?;
         assert_eq!(rt; left.status.number(), 0, "{script:?}");
         assert_eq!(rt; left.note.bytes(), b"".as_slice(), "{script:?}");
         assert!(rt;
@@ -63,12 +66,12 @@ fn expect_edits(
 
 /// Asserts that each demo with its script is refused with this line, and that nothing is put.
 fn expect_refusals(
-    rt: &impl Abort,
+    rt: &(impl Abort + Threads + Sync),
     alloc: Global,
     rows: &[(&[u8], &[u8], &[u8])],
 ) -> Result<(), Fail> {
     for (demo, script, line) in rows {
-        let left = ran(alloc, &EDIT, demo, script, NONE)?;
+        let left = ran(rt, alloc, &EDIT, demo, script, NONE)?;
         assert_eq!(rt; left.status.number(), 1, "{line:?}");
         assert_eq!(rt; left.note.bytes(), *line);
         assert!(rt; left.shelf.file("out.lmp").is_none(), "{line:?}");
@@ -80,9 +83,13 @@ fn expect_refusals(
 /// the text that is pushed.
 type Faults<'a> = &'a [(Failing, &'a [u8], u8, bool, &'a [u8])];
 
-fn expect_faults(rt: &impl Abort, alloc: Global, rows: Faults<'_>) -> Result<(), Fail> {
+fn expect_faults(
+    rt: &(impl Abort + Threads + Sync),
+    alloc: Global,
+    rows: Faults<'_>,
+) -> Result<(), Fail> {
     for (failing, script, status, put, text) in rows {
-        let left = ran(alloc, &EDIT, EMPTY, script, *failing)?;
+        let left = ran(rt, alloc, &EDIT, EMPTY, script, *failing)?;
         assert_eq!(rt; left.status.number(), *status, "{script:?}");
         assert_eq!(rt; left.shelf.file("out.lmp").is_some(), *put, "{script:?}");
         assert_eq!(rt; left.note.bytes(), *text);
@@ -91,9 +98,13 @@ fn expect_faults(rt: &impl Abort, alloc: Global, rows: Faults<'_>) -> Result<(),
 }
 
 /// Asserts that these words, with devices that always fail, are no command line.
-fn expect_usage(rt: &impl Abort, alloc: Global, rows: &[&[&str]]) -> Result<(), Fail> {
+fn expect_usage(
+    rt: &(impl Abort + Threads + Sync),
+    alloc: Global,
+    rows: &[&[&str]],
+) -> Result<(), Fail> {
     for words in rows {
-        let left = ran(alloc, words, b"", b"", ALL)?;
+        let left = ran(rt, alloc, words, b"", b"", ALL)?;
         assert_eq!(rt; left.status.number(), 2, "{words:?}");
         assert_eq!(rt; left.note.bytes(), b"".as_slice());
         assert!(rt; left.shelf.file("out.lmp").is_none());
@@ -264,7 +275,7 @@ fn a_refused_edit_is_named_with_its_line(rt: HostRuntime) -> Result<(), Fail> {
 fn a_file_above_its_limit_is_refused(rt: HostRuntime) -> Result<(), Fail> {
     let alloc = rt.alloc();
     let mut script = vec![in alloc; b'\n'; 1_048_576]?;
-    let left = ran(alloc, &EDIT, EMPTY, &script, NONE)?;
+    let left = ran(&rt, alloc, &EDIT, EMPTY, &script, NONE)?;
     assert_eq!(rt; left.status.number(), 0);
     script.push(b'\n')?;
     let demo = vec![in alloc; 0u8; 16_777_217]?;
@@ -351,7 +362,7 @@ fn an_input_may_be_the_output(rt: HostRuntime) -> Result<(), Fail> {
     let alloc = rt.alloc();
     let demo = with_header(alloc, &HEADER, b"\x01\x02\x03\x04\x80rest")?;
     let words = ["edit", "in.lmp", "script", "in.lmp"];
-    let left = ran(alloc, &words, &demo, b"insert 5 6 7 8", NONE)?;
+    let left = ran(&rt, alloc, &words, &demo, b"insert 5 6 7 8", NONE)?;
     let out = with_header(alloc, &HEADER, b"\x05\x06\x07\x08\x01\x02\x03\x04\x80")?;
     assert_eq!(rt; left.status.number(), 0);
     assert!(rt; left.shelf.file("in.lmp") == Some(out.as_slice()));
@@ -361,7 +372,7 @@ fn an_input_may_be_the_output(rt: HostRuntime) -> Result<(), Fail> {
 #[test]
 fn a_missing_file_is_a_read_fault(rt: HostRuntime) -> Result<(), Fail> {
     let words = ["edit", "no.lmp", "script", "out.lmp"];
-    let left = ran(rt.alloc(), &words, b"", b"", NONE)?;
+    let left = ran(&rt, rt.alloc(), &words, b"", b"", NONE)?;
     assert_eq!(rt; left.status.number(), 3);
     assert_eq!(rt; left.note.bytes(), b"".as_slice());
     Ok(())

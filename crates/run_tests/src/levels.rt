@@ -7,6 +7,7 @@ use sample_inputs::{
 use std::alloc::{AllocError, Global};
 use std::process::Abort;
 use std::test::Fail;
+use std::thread::Threads;
 
 /// The words of a report of a level.
 const LEVEL: [&str; 4] = ["level", "maps.wad", "play.ptab", "in.lmp"];
@@ -26,6 +27,7 @@ const TABLES_LEN: usize = 49_436;
 
 /// Runs `level` over these files.
 fn reported(
+    rt: &(impl Threads + Sync),
     alloc: Global,
     maps: &[u8],
     tables: &[u8],
@@ -33,15 +35,19 @@ fn reported(
     failing: Failing,
 ) -> Result<Left, Fail> {
     let files = [("maps.wad", maps), ("play.ptab", tables), ("in.lmp", demo)];
-    ran_over(alloc, &LEVEL, &files, failing)
+    ran_over(rt, alloc, &LEVEL, &files, failing)
 }
 
 /// Files, the number that `level` over them ends with, and what it prints.
 type Reports<'a> = &'a [(&'a [u8], &'a [u8], &'a [u8], u8, &'a [u8])];
 
-fn expect_reports(rt: &impl Abort, alloc: Global, rows: Reports<'_>) -> Result<(), Fail> {
+fn expect_reports(
+    rt: &(impl Abort + Threads + Sync),
+    alloc: Global,
+    rows: Reports<'_>,
+) -> Result<(), Fail> {
     for (maps, tables, demo, status, text) in rows {
-        let left = reported(alloc, maps, tables, demo, NONE)?;
+        let left = reported(rt, alloc, maps, tables, demo, NONE)?;
         assert_eq!(rt; left.note.bytes(), *text);
         assert_eq!(rt; left.status.number(), *status);
     }
@@ -231,7 +237,7 @@ fn the_start_is_reported_or_refused(rt: HostRuntime) -> Result<(), Fail> {
 
 /// Asserts that the single room is refused with this line where these bytes stand from this place on in its WAD.
 fn expect_patches(
-    rt: &impl Abort,
+    rt: &(impl Abort + Threads + Sync),
     alloc: Global,
     rows: &[(usize, &[u8], &[u8])],
 ) -> Result<(), Fail> {
@@ -240,7 +246,7 @@ fn expect_patches(
     let empty = demo_of_zeros(alloc, 0)?;
     for (at, by, line) in rows {
         let maps = patched(alloc, &room, *at, by)?;
-        let left = reported(alloc, &maps, &tables, &empty, NONE)?;
+        let left = reported(rt, alloc, &maps, &tables, &empty, NONE)?;
         assert_eq!(rt; left.note.bytes(), *line);
         assert_eq!(rt; left.status.number(), 1);
     }
@@ -314,11 +320,15 @@ fn faulty_nodes_and_tables_are_refused(rt: HostRuntime) -> Result<(), Fail> {
 }
 
 /// Asserts that the WAD is refused wherever it is cut.
-fn expect_cut_maps(rt: &impl Abort, alloc: Global, maps: &[u8]) -> Result<(), Fail> {
+fn expect_cut_maps(
+    rt: &(impl Abort + Threads + Sync),
+    alloc: Global,
+    maps: &[u8],
+) -> Result<(), Fail> {
     let tables = play_tables(alloc)?;
     let empty = demo_of_zeros(alloc, 0)?;
     for len in 0..maps.len() {
-        let left = reported(alloc, &maps[..len], &tables, &empty, NONE)?;
+        let left = reported(rt, alloc, &maps[..len], &tables, &empty, NONE)?;
         let line: &[u8] = if len < 12 {
             b"refused: wad head\n"
         } else {
@@ -330,7 +340,11 @@ fn expect_cut_maps(rt: &impl Abort, alloc: Global, maps: &[u8]) -> Result<(), Fa
 }
 
 /// Asserts that the tables are refused where they are cut: in their head, behind it, and before the last byte.
-fn expect_cut_tables(rt: &impl Abort, alloc: Global, tables: &[u8]) -> Result<(), Fail> {
+fn expect_cut_tables(
+    rt: &(impl Abort + Threads + Sync),
+    alloc: Global,
+    tables: &[u8],
+) -> Result<(), Fail> {
     let maps = room(alloc)?;
     let empty = demo_of_zeros(alloc, 0)?;
     for (len, line) in [
@@ -340,18 +354,22 @@ fn expect_cut_tables(rt: &impl Abort, alloc: Global, tables: &[u8]) -> Result<()
         (TABLES_LEN - 1, b"refused: tables length\n".as_slice()),
     ] {
         let cut = tables.get(..len).unwrap_or(&[]);
-        let left = reported(alloc, &maps, cut, &empty, NONE)?;
+        let left = reported(rt, alloc, &maps, cut, &empty, NONE)?;
         assert_eq!(rt; left.note.bytes(), line, "{len}");
     }
     Ok(())
 }
 
 /// Asserts that the demo is refused wherever it is cut.
-fn expect_cut_demos(rt: &impl Abort, alloc: Global, demo: &[u8]) -> Result<(), Fail> {
+fn expect_cut_demos(
+    rt: &(impl Abort + Threads + Sync),
+    alloc: Global,
+    demo: &[u8],
+) -> Result<(), Fail> {
     let maps = room(alloc)?;
     let tables = play_tables(alloc)?;
     for len in 0..demo.len() {
-        let left = reported(alloc, &maps, &tables, &demo[..len], NONE)?;
+        let left = reported(rt, alloc, &maps, &tables, &demo[..len], NONE)?;
         let line = format!(in alloc; "refused: demo cut at {len}\n")?;
         assert_eq!(rt; left.note.bytes(), line.as_bytes());
     }
@@ -398,7 +416,7 @@ fn a_level_needs_no_put(rt: HostRuntime) -> Result<(), Fail> {
         ),
     ];
     for (failing, status, text) in rows {
-        let left = reported(alloc, &maps, &tables, &empty, *failing)?;
+        let left = reported(&rt, alloc, &maps, &tables, &empty, *failing)?;
         assert_eq!(rt; left.note.bytes(), *text);
         assert_eq!(rt; left.status.number(), *status);
     }

@@ -18,7 +18,7 @@ returns-in-Ok-clause-ends g c =
     let ended = rw c.out_name.ensures at c.conclude.ensures.ends in
     let later = c.conclude.ensures.later in
     record {
-      ending = judged_ends (λ sure. (taken.stays_sure sure.0, sure.1)) c.args.words.now c.args.command texts c.judge.result before mid after c.args.steps.now.tics c.judge.new.steps.tics c.conclude.result c.requires told took c.judge.ensures.takes ended;
+      ending = judged_ends (λ sure. (taken.stays_sure sure.0, sure.1)) c.args.words.now c.args.command texts c.judge.result before mid after c.args.steps.now.tics c.judge.new.steps.tics c.conclude.result c.requires.asked told took c.judge.ensures ended;
       later = record { takes = omega (arith, taken.takes, later.takes); puts = omega (arith, taken.puts, later.puts); pushes = omega (arith, later.pushes) };
     }
 
@@ -30,6 +30,6 @@ returns-in-Err-clause-ends g c =
     let taken = c.take_all-taken.ensures in
     let took : OnlyTook before after = record { files = taken.holds; takes = taken.takes; puts = taken.puts; text = refl; pushes = refl } in
     record {
-      ending = rw c.status_of_take.ensures (inl (take_fault_stops c.args.words.now c.args.command before after c.in-Err.fault c.requires took (λ failed. taken.cause (c.in-Err.is ∙ ap Err failed)) (λ failed sure. missing_told (g.S.Shelf.holds c.args.shelf.now) c.args.words.now (inputs_of c.args.command) _ c.inputs_of.ensures (taken.missing (c.in-Err.is ∙ ap Err failed) sure.0))));
+      ending = rw c.status_of_take.ensures (inl (take_fault_stops c.args.words.now c.args.command before after c.in-Err.fault c.requires.asked took (λ failed. taken.cause (c.in-Err.is ∙ ap Err failed)) (λ failed sure. missing_told (g.S.Shelf.holds c.args.shelf.now) c.args.words.now (inputs_of c.args.command) _ c.inputs_of.ensures (taken.missing (c.in-Err.is ∙ ap Err failed) sure.0))));
       later = record { takes = taken.takes; puts = omega (arith, taken.puts); pushes = omega arith };
     }
