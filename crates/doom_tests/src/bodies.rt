@@ -1,8 +1,36 @@
 //! What a sector does to the player, what the player finds, and buttons that halt.
 use crate::levels::{Map, ROOM};
-use crate::played::{press, reading, rest, run, shown, turned};
+use crate::played::{press, reading, rest, run, shown, still, turned, vitals};
 use game_trait::{Halt, Quantity, Shown};
 use std::test::Fail;
+
+/// Five points on each beat, with a random number for each hit.
+#[test]
+fn damage(rt: HostRuntime) -> Result<(), Fail> {
+    let map = Map { special: 7, ..ROOM };
+    for (tics, health, rng) in [(1, 95, 2), (33, 90, 3)] {
+        let found = vitals(rt.alloc(), map, &[rest(tics)])?;
+        assert_eq!(rt; found, Some((health, 0, 0, 0, 0, 0)));
+        let found = reading(rt.alloc(), map, &[rest(tics)], Quantity::Rng)?;
+        assert_eq!(rt; found, Some(rng));
+    }
+    Ok(())
+}
+
+/// Five hits of 20 are the end of the player where the last one is not spared.
+#[test]
+fn death(rt: HostRuntime) -> Result<(), Fail> {
+    let map = Map {
+        special: 16,
+        ..ROOM
+    };
+    let died = Shown::Halted {
+        tic: 129,
+        halt: Halt::Died,
+    };
+    assert_eq!(rt; shown(rt.alloc(), map, &[rest(129)])?, died);
+    Ok(())
+}
 
 /// Five hits of 20 leave one point of health, and end the level.
 #[test]
@@ -49,21 +77,15 @@ fn key(rt: HostRuntime) -> Result<(), Fail> {
     Ok(())
 }
 
-/// The special button is judged before the attack; a halted world stays as it is.
+/// The special button is judged before the attack; a halted world stays as it is; a change of weapons does nothing.
 #[test]
 fn buttons(rt: HostRuntime) -> Result<(), Fail> {
-    let attack = Shown::Halted {
-        tic: 3,
-        halt: Halt::Attack,
-    };
-    assert_eq!(rt;
-        shown(rt.alloc(), ROOM, &[rest(2), press(1), press(128)])?,
-        attack
-    );
-    let special = Shown::Halted {
-        tic: 1,
-        halt: Halt::Button,
-    };
-    assert_eq!(rt; shown(rt.alloc(), ROOM, &[press(129)])?, special);
+    for (buttons, halt) in [(1, Halt::Attack), (128, Halt::Button), (129, Halt::Button)] {
+        let tics = [rest(2), press(buttons), press(128)];
+        let halted = Shown::Halted { tic: 3, halt };
+        assert_eq!(rt; shown(rt.alloc(), ROOM, &tics)?, halted);
+    }
+    let changed = still(1, [0, 0, 0], [0, 0, 0]);
+    assert_eq!(rt; shown(rt.alloc(), ROOM, &[press(60)])?, changed);
     Ok(())
 }

@@ -4,7 +4,8 @@ use lmp_codec::{Header, read_demo};
 use map_load::load;
 use play_step::Doom;
 use sample_inputs::{
-    HEADER, MapPlan, PlanKind, PlanThing, demo, play_tables_of, single_room, two_sectors, wad,
+    HEADER, MapPlan, PlanKind, PlanLine, PlanThing, demo, play_tables_of, single_room, two_sectors,
+    wad,
 };
 use std::alloc::Global;
 use std::test::Fail;
@@ -24,6 +25,8 @@ pub(crate) struct Map {
     pub tag: i16,
     /// The thing's number, place and angle.
     pub thing: Option<(u16, i16, i16, i16)>,
+    /// Whether [`WALLS`] stand in the single room.
+    pub walls: bool,
 }
 
 /// The single room, without special.
@@ -32,7 +35,80 @@ pub(crate) const ROOM: Map = Map {
     special: 0,
     tag: 0,
     thing: None,
+    walls: false,
 };
+
+const WALL: PlanLine = PlanLine {
+    from: (100, -200),
+    to: (300, 0),
+    flags: 1,
+    special: 0,
+    tag: 0,
+    front: 0,
+    back: None,
+};
+
+/// Walls of each slope, a fence that blocks, one that only a slide feels, a teleporter, a light that is crossed and one
+/// that is switched.
+const WALLS: [PlanLine; 10] = [
+    WALL,
+    PlanLine {
+        from: (-60, 240),
+        to: (-200, 100),
+        ..WALL
+    },
+    PlanLine {
+        from: (64, 256),
+        to: (64, 64),
+        ..WALL
+    },
+    PlanLine {
+        from: (-300, -100),
+        to: (-80, -100),
+        ..WALL
+    },
+    PlanLine {
+        from: (-100, -300),
+        to: (100, -400),
+        ..WALL
+    },
+    PlanLine {
+        from: (-64, 64),
+        to: (-64, -64),
+        flags: 5,
+        back: Some(0),
+        ..WALL
+    },
+    PlanLine {
+        from: (200, 150),
+        to: (300, 50),
+        flags: 4,
+        special: 97,
+        back: Some(0),
+        ..WALL
+    },
+    PlanLine {
+        from: (-250, -300),
+        to: (-250, -200),
+        flags: 0,
+        back: Some(0),
+        ..WALL
+    },
+    PlanLine {
+        from: (0, -100),
+        to: (60, -100),
+        flags: 4,
+        special: 81,
+        back: Some(0),
+        ..WALL
+    },
+    PlanLine {
+        from: (-20, 128),
+        to: (20, 128),
+        special: 139,
+        ..WALL
+    },
+];
 
 /// A level floor with a line one unit east of the player.
 pub(crate) const STRIP: Map = Map {
@@ -48,6 +124,9 @@ fn ground(alloc: Global, map: Map) -> Result<MapPlan, Fail> {
     let mut plan = single_room(alloc)?;
     for sector in &mut plan.sectors {
         sector.special = map.special;
+    }
+    if map.walls {
+        plan.lines.extend_from_slice(&WALLS)?;
     }
     Ok(plan)
 }

@@ -13,3 +13,5 @@ mod movers;
 mod moves;
 #[cfg(test)]
 mod played;
+#[cfg(test)]
+mod walks;

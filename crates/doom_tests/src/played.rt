@@ -91,6 +91,33 @@ pub(crate) fn sector(
     Ok(sector_of(&game, &world, number))
 }
 
+/// Health, armour and its kind, and what is left of a suit, of an invulnerability and of a teleport.
+pub(crate) type Vitals = (i32, i32, u8, u32, u32, u32);
+
+fn body_of(game: &Doom, world: &World) -> Option<Vitals>
+    requires { PlaysOn game.now world.now }
+{
+    if world.halted().is_some() {
+        return None;
+    }
+    let body = game.body(world);
+    Some((
+        body.health,
+        body.armour,
+        body.kind,
+        body.suit,
+        body.guard,
+        body.react,
+    ))
+}
+
+/// The player's body after these tics.
+pub(crate) fn vitals(alloc: Global, map: Map, list: &[Tics]) -> Result<Option<Vitals>, Fail> {
+    let game = game(alloc, map)?;
+    let world = played(alloc, &game, list)?;
+    Ok(body_of(&game, &world))
+}
+
 /// A reading after these tics.
 pub(crate) fn reading(
     alloc: Global,
