@@ -1,0 +1,21 @@
+"""Finds and runs dsda_build, for the tools beside it.
+
+The program is the one that the environment variable DSDA_BUILD names, and else this checkout's own, which is built where
+it is missing.
+"""
+
+import os
+import subprocess
+
+TOP = os.path.dirname(os.path.dirname(os.path.realpath(__file__)))
+PROGRAM = os.environ.get("DSDA_BUILD") or os.path.join(TOP, "dsda_build")
+
+
+def run(*words):
+    """A run of the program on these words, with its status and both outputs."""
+    return subprocess.run([PROGRAM, *words], capture_output=True, text=True, check=False)
+
+
+def build(wad, tables, demo, script, out):
+    """A run of `build`, which carries out a script on a demo."""
+    return run("build", wad, tables, demo, script, out)
