@@ -5,6 +5,16 @@
 #[cfg(test)]
 mod edits;
 #[cfg(test)]
+mod galleries;
+#[cfg(test)]
 mod levels;
 #[cfg(test)]
+mod maps;
+#[cfg(test)]
 mod over;
+#[cfg(test)]
+mod refusals;
+#[cfg(test)]
+mod searches;
+#[cfg(test)]
+mod worlds;

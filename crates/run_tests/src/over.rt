@@ -1,7 +1,10 @@
 //! Runs over files in memory and a sink in memory.
+use crate::maps::{Map, ended, tables, wad_of};
 use doom_edge::{Gate, MemShelf, MemSink, NoGate, Steps};
 use dsda_cli::{Status, Words, run};
+use sample_inputs::HEADER;
 use std::alloc::Global;
+use std::process::Abort;
 use std::test::Fail;
 use std::thread::Threads;
 
@@ -77,4 +80,75 @@ pub fn ran_past(
         note,
         tics: steps.tics(),
     })
+}
+
+/// Runs the words of a session over its files; `build` reads no order.
+pub fn ran_session(
+    rt: &(impl Threads + Sync),
+    gate: &(impl Gate + Sync),
+    alloc: Global,
+    words: &[&str],
+    wad: &[u8],
+    tables: &[u8],
+    demo: &[u8],
+    script: &[u8],
+    order: &[u8],
+    failing: Failing,
+) -> Result<Left, Fail> {
+    let files = [
+        ("maps.wad", wad),
+        ("play.ptab", tables),
+        ("in.lmp", demo),
+        ("script", script),
+        ("order", order),
+    ];
+    ran_past(rt, gate, alloc, words, &files, failing)
+}
+
+/// The words before what follows OUT.
+pub const BUILD: [&str; 6] = [
+    "build",
+    "maps.wad",
+    "play.ptab",
+    "in.lmp",
+    "script",
+    "out.lmp",
+];
+
+/// The words of `sim`.
+pub const SIM: [&str; 7] = [
+    "sim",
+    "maps.wad",
+    "play.ptab",
+    "in.lmp",
+    "script",
+    "out.lmp",
+    "order",
+];
+
+/// A run over a map and the sample tables: the map, what stands behind the demo's header, the script, the report, and
+/// what stands behind the new demo's header.
+pub type Row<'a> = (Map, &'a [u8], &'a [u8], &'a [u8], &'a [u8]);
+
+/// Asserts that the words come to that over the files of the row.
+pub fn expect_row(
+    rt: &(impl Abort + Threads + Sync),
+    alloc: Global,
+    words: &[&str],
+    (map, behind, script, report, left_behind): Row<'_>,
+) -> Result<(), Fail> {
+    let wad = wad_of(alloc, map)?;
+    let tables = tables(alloc)?;
+    let demo = ended(alloc, &HEADER, behind)?;
+    let left = ran_session(
+        rt, &NoGate, alloc, words, &wad, &tables, &demo, script, b"", NONE,
+    )?;
+    let out = ended(alloc, &HEADER, left_behind)?;
+    assert!(rt; left.note.bytes() == report, "{script:?}");
+    assert_eq!(rt; left.status.number(), 0);
+    assert!(rt;
+        left.shelf.file("out.lmp") == Some(out.as_slice()),
+        "{script:?}"
+    );
+    Ok(())
 }
