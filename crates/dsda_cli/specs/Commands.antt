@@ -61,16 +61,28 @@ demo_limit = 16777216
 abbrev pub script_limit : ℕ
 script_limit = 1048576
 
--- the inputs of a command, in the order of the words that name them, each with its limit
+-- the inputs of what is played on a level: the word that names each, and its limit
+abbrev pub wad_input : Input
+wad_input = record { word = 1; limit = wad_limit }
+
+abbrev pub tables_input : Input
+tables_input = record { word = 2; limit = tables_limit }
+
+abbrev pub demo_input : Input
+demo_input = record { word = 3; limit = demo_limit }
+
+abbrev pub script_input : Input
+script_input = record { word = 4; limit = script_limit }
+
+abbrev pub order_input : Input
+order_input = record { word = 6; limit = script_limit }
+
+-- the inputs of a command, in the order of the words that name them
 abbrev pub inputs_of : Command → List Input
 inputs_of Edit = record { word = 1; limit = demo_limit } ∷ record { word = 2; limit = script_limit } ∷ []
-inputs_of Level = record { word = 1; limit = wad_limit } ∷ record { word = 2; limit = tables_limit } ∷ record { word = 3; limit = demo_limit } ∷ []
-inputs_of (Build workers) =
-    record { word = 1; limit = wad_limit } ∷ record { word = 2; limit = tables_limit } ∷ record { word = 3; limit = demo_limit }
-    ∷ record { word = 4; limit = script_limit } ∷ []
-inputs_of Sim =
-    record { word = 1; limit = wad_limit } ∷ record { word = 2; limit = tables_limit } ∷ record { word = 3; limit = demo_limit }
-    ∷ record { word = 4; limit = script_limit } ∷ record { word = 6; limit = script_limit } ∷ []
+inputs_of Level = wad_input ∷ tables_input ∷ demo_input ∷ []
+inputs_of (Build workers) = wad_input ∷ tables_input ∷ demo_input ∷ script_input ∷ []
+inputs_of Sim = wad_input ∷ tables_input ∷ demo_input ∷ script_input ∷ order_input ∷ []
 inputs_of (Gen number) = []
 
 -- the word that names the file which a command puts, if it puts one

@@ -35,6 +35,31 @@ const DEMO_LIMIT: u32 = 16_777_216;
 
 const SCRIPT_LIMIT: u32 = 1_048_576;
 
+const WAD: Input = Input {
+    word: 1,
+    limit: WAD_LIMIT,
+};
+
+const TABLES: Input = Input {
+    word: 2,
+    limit: TABLES_LIMIT,
+};
+
+const DEMO: Input = Input {
+    word: 3,
+    limit: DEMO_LIMIT,
+};
+
+const SCRIPT: Input = Input {
+    word: 4,
+    limit: SCRIPT_LIMIT,
+};
+
+const ORDER: Input = Input {
+    word: 6,
+    limit: SCRIPT_LIMIT,
+};
+
 static EDIT_INPUTS: [Input; 2] = [
     Input {
         word: 1,
@@ -46,62 +71,11 @@ static EDIT_INPUTS: [Input; 2] = [
     },
 ];
 
-static LEVEL_INPUTS: [Input; 3] = [
-    Input {
-        word: 1,
-        limit: WAD_LIMIT,
-    },
-    Input {
-        word: 2,
-        limit: TABLES_LIMIT,
-    },
-    Input {
-        word: 3,
-        limit: DEMO_LIMIT,
-    },
-];
+static LEVEL_INPUTS: [Input; 3] = [WAD, TABLES, DEMO];
 
-static BUILD_INPUTS: [Input; 4] = [
-    Input {
-        word: 1,
-        limit: WAD_LIMIT,
-    },
-    Input {
-        word: 2,
-        limit: TABLES_LIMIT,
-    },
-    Input {
-        word: 3,
-        limit: DEMO_LIMIT,
-    },
-    Input {
-        word: 4,
-        limit: SCRIPT_LIMIT,
-    },
-];
+static BUILD_INPUTS: [Input; 4] = [WAD, TABLES, DEMO, SCRIPT];
 
-static SIM_INPUTS: [Input; 5] = [
-    Input {
-        word: 1,
-        limit: WAD_LIMIT,
-    },
-    Input {
-        word: 2,
-        limit: TABLES_LIMIT,
-    },
-    Input {
-        word: 3,
-        limit: DEMO_LIMIT,
-    },
-    Input {
-        word: 4,
-        limit: SCRIPT_LIMIT,
-    },
-    Input {
-        word: 6,
-        limit: SCRIPT_LIMIT,
-    },
-];
+static SIM_INPUTS: [Input; 5] = [WAD, TABLES, DEMO, SCRIPT, ORDER];
 
 /// How many workers search where the words don't say.
 pub const WORKERS: u32 = 4;
