@@ -42,6 +42,10 @@ refused : {G : Type 0} (old : Seen G) (outcome : Outcome) (reach : ℕ) (fault :
 refused old (Ok tape) reach fault is = absurd cc
 refused old (Err other) reach fault is = let same : other ≡ fault = cc in ap Err same
 
+-- the session of a build that is as it was
+same_build : {G : Type 0} (old : Seen G) (build : Built G) → build ≡ old.build → record { build = build; report = old.report } ≡ old
+same_build old build same = λ k. record { build = same k; report = old.report }
+
 -- an edit of the build that may find no memory
 pub may_edit_does : {G : Type 0} (old : Seen G) (build : Built G) (result : Result (Unit {0}) EditFault) (outcome : Outcome) (reach count : ℕ)
     → MayEdit result old.build build (with_tape old.build reach outcome)
@@ -50,9 +54,9 @@ may_edit_does old build (Ok done) outcome reach count is =
     let t = taped old build outcome reach is in
     (t.0, record { game = t.1; reach = t.2; rises = rises_free count count refl })
 may_edit_does old build (Err Memory) outcome reach count is = tt
-may_edit_does old build (Err (Place n)) outcome reach count is = refused old outcome reach (Place n) is.0
-may_edit_does old build (Err Before) outcome reach count is = refused old outcome reach Before is.0
-may_edit_does old build (Err TooLong) outcome reach count is = refused old outcome reach TooLong is.0
+may_edit_does old build (Err (Place n)) outcome reach count is = (refused old outcome reach (Place n) is.0, same_build old build is.1)
+may_edit_does old build (Err Before) outcome reach count is = (refused old outcome reach Before is.0, same_build old build is.1)
+may_edit_does old build (Err TooLong) outcome reach count is = (refused old outcome reach TooLong is.0, same_build old build is.1)
 
 -- one that needs none
 pub edit_does : {G : Type 0} (old : Seen G) (build : Built G) (result : Result (Unit {0}) EditFault) (outcome : Outcome) (reach count : ℕ)
@@ -62,9 +66,9 @@ edit_does old build (Ok done) outcome reach count is =
     let t = taped old build outcome reach is in
     (t.0, record { game = t.1; reach = t.2; rises = rises_free count count refl })
 edit_does old build (Err Memory) outcome reach count is = tt
-edit_does old build (Err (Place n)) outcome reach count is = refused old outcome reach (Place n) is.0
-edit_does old build (Err Before) outcome reach count is = refused old outcome reach Before is.0
-edit_does old build (Err TooLong) outcome reach count is = refused old outcome reach TooLong is.0
+edit_does old build (Err (Place n)) outcome reach count is = (refused old outcome reach (Place n) is.0, same_build old build is.1)
+edit_does old build (Err Before) outcome reach count is = (refused old outcome reach Before is.0, same_build old build is.1)
+edit_does old build (Err TooLong) outcome reach count is = (refused old outcome reach TooLong is.0, same_build old build is.1)
 
 -- a target does nothing
 pub nothing_does : {G : Type 0} (old : Seen G) (count : ℕ) → Does (Ok tt) (Ok (state_in old)) (kept_to old.build.reach) old old count count

@@ -1,7 +1,8 @@
 -- A script's commands, one after the other.
-use Rattle.std.proofs.Common.{◌≡◌, ℕ, ◌+◌, ◌<◌, List, [], ◌∷◌, length, take, drop, fold, get_or, refl, ap, sym, ◌∙◌, Result, Ok, Err}
+use Rattle.std.proofs.Common.{◌≡◌, ℕ, ◌+◌, ◌<◌, List, [], ◌∷◌, length, take, drop, fold, slice_get, get_or, refl, ap, sym, ◌∙◌, Some, Result, Ok, Err}
 use Rattle.std.proofs.lemmas.List.Sums.{fold_more, fold-append}
 use Rattle.std.proofs.lemmas.List.{take-append-drop}
+use Rattle.std.proofs.lemmas.Option.{slice_get-get_or}
 use Rattle.build_script.specs.declared.commands.Entry.{Entry}
 use Rattle.build_edits.specs.declared.fault.EditFault.{EditFault}
 use Rattle.build_edits.specs.declared.fault.EditFault.TheVariants.{Place, Before, TooLong, Memory}
@@ -10,7 +11,7 @@ use Rattle.build_session.specs.declared.fault.SessionFault.TheVariants as sessio
 use Rattle.build_session.specs.Session.{Play, State, carried, at_line, next_carried, all_carried}
 use Rattle.build_session.specs.Costs.{Spent, spent, Run, run_at, spent_after, with_spent, next_run, all_run, unspent, state_of_run}
 use Rattle.build_session.specs.Seen.{Seen}
-use Rattle.build_session.specs.Runs.{state_in, Spends, Does, CarriesOut, Ends, refused_at}
+use Rattle.build_session.specs.Runs.{state_in, Spends, Does, CarriesOut, Ends, StopsAt, Stands, refused_at}
 use Rattle.doom_edge.proofs.Costs.{rises_free, rises_both}
 
 module _ {G W : Type 0} (play : Play G W) (game : G) where
@@ -104,6 +105,28 @@ module _ {G W : Type 0} (play : Play G W) (game : G) where
       → Does (Err fault) (carried play game (get_or entries place d).command (state_in now)) (spent play game (get_or entries place d).command (state_in now) now.build.reach) now next mid after
       → CarriesOut (Err (refused_at (get_or entries place d).line fault)) (all_run play game entries (unspent (state_in start) start.build.reach)) start next before after
   came_stop entries place d start now next before mid after Memory inside came is = tt
-  came_stop entries place d start now next before mid after (Place n) inside came is = stopped_at entries place d start now before mid (Place n) inside came is
-  came_stop entries place d start now next before mid after Before inside came is = stopped_at entries place d start now before mid Before inside came is
-  came_stop entries place d start now next before mid after TooLong inside came is = stopped_at entries place d start now before mid TooLong inside came is
+  came_stop entries place d start now next before mid after (Place n) inside came is = stopped_at entries place d start now before mid (Place n) inside came is.0
+  came_stop entries place d start now next before mid after Before inside came is = stopped_at entries place d start now before mid Before inside came is.0
+  came_stop entries place d start now next before mid after TooLong inside came is = stopped_at entries place d start now before mid TooLong inside came is.0
+
+  -- the session in which a command is refused is what those before it have made
+  stops_at : (entries : List Entry) (place : ℕ) (d : Entry) (start now next : Seen G) (before mid : ℕ) (fault : EditFault) → place < length entries
+      → Came (take place entries) start now before mid → carried play game (get_or entries place d).command (state_in now) ≡ Err fault → next ≡ now
+      → StopsAt play game entries (state_in start) (state_in next) (get_or entries place d).line fault × (next.build.game ≡ start.build.game)
+  stops_at entries place d start now next before mid fault inside came is same =
+      let stood : all_carried play game (take place entries) (state_in start) ≡ Ok (state_in now) =
+      sym (costs_change_nothing (take place entries) (Ok (unspent (state_in start) start.build.reach))) ∙ ap state_of_run came.is ∙ ap Ok came.state in
+      let there : slice_get entries place ≡ Some (get_or entries place d) = slice_get-get_or entries place d inside in
+      rw same (
+        record { done = place; before = stood; refused = rw there (refl, is) },
+        came.spends.game,
+      )
+
+  pub stands : (entries : List Entry) (place : ℕ) (d : Entry) (start now next : Seen G) (before mid after : ℕ) (fault : EditFault) → place < length entries
+      → Came (take place entries) start now before mid
+      → Does (Err fault) (carried play game (get_or entries place d).command (state_in now)) (spent play game (get_or entries place d).command (state_in now) now.build.reach) now next mid after
+      → Stands (Err (refused_at (get_or entries place d).line fault)) play game entries start next
+  stands entries place d start now next before mid after Memory inside came is = tt
+  stands entries place d start now next before mid after (Place n) inside came is = stops_at entries place d start now next before mid (Place n) inside came is.0 is.1
+  stands entries place d start now next before mid after Before inside came is = stops_at entries place d start now next before mid Before inside came is.0 is.1
+  stands entries place d start now next before mid after TooLong inside came is = stops_at entries place d start now next before mid TooLong inside came is.0 is.1

@@ -14,7 +14,7 @@ ghost use Rattle.build_session.specs.Searches.{CanSearch, turns_of};
 ghost use Rattle.build_session.specs.Session.{play_of, accepted, carried, all_carried, shown_in, searched, NamesSectors, HasForm};
 ghost use Rattle.build_session.specs.Costs.{spent, showing, kept_after, all_run, unspent};
 ghost use Rattle.build_session.specs.Lines.{answer_lines};
-ghost use Rattle.build_session.specs.Runs.{state_in, Does, CarriesOut, Ends};
+ghost use Rattle.build_session.specs.Runs.{state_in, Does, CarriesOut, Ends, Stands};
 
 use crate::fault::{SessionFault, refused_at};
 use crate::searches::{Searched, Searcher, search};
@@ -163,8 +163,8 @@ where
         }
     }
 
-    /// Carries a script out, one command after the other. The first that is refused ends it. The gate is called as by
-    /// a search of workers.
+    /// Carries a script out, one command after the other. The first that is refused ends it, and changes nothing. After
+    /// `Memory` nothing is said of the session. The gate is called as by a search of workers.
     pub fn carry_out<T: Gate + Sync, R: Threads + Sync>(
         &mut self,
         alloc: Global,
@@ -183,6 +183,9 @@ where
 
         // The same of the session alone.
         ensures carried { Ends result (all_carried (play_of G.Game G.ground_of G.vitals_of (turns_of searcher.now G.Game)) self.old.build.game script.now (state_in self.old)) self.new }
+
+        // After a refusal the session is what the commands before the refused one have made.
+        ensures stands { Stands result (play_of G.Game G.ground_of G.vitals_of (turns_of searcher.now G.Game)) self.old.build.game script.now self.old self.new }
 
         // A demo holds the turns of all tics that are left, where it holds those of the first and of the script.
         ensures turns { (long : Bool) → HoldsTics long script.now → HoldsTurns long (all_tics self.old.build.tape)

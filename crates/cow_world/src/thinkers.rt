@@ -1,8 +1,8 @@
 //! Thinkers.
-ghost use Rattle.std.specs.Prelude.{◌≡◌, ◌+◌, ◌<◌, ◌≤◌, length, IfSome, Some, IsTrue, OnOk, OnErr};
+ghost use Rattle.std.specs.Prelude.{◌≡◌, ◌⊎◌, ◌+◌, ◌<◌, ◌≤◌, length, IfSome, Some, IsTrue, OnOk, OnErr};
 ghost use Rattle.cow_world.specs.Thinkers.{sector_of, moved_by, is_lift, lift_count};
 ghost use Rattle.cow_world.specs.Flat.{IsLive, parts, thinker_at, push_thinker, set_thinker};
-ghost use Rattle.cow_world.specs.Ends.{end_mover};
+ghost use Rattle.cow_world.specs.Ends.{unnamed, end_mover};
 ghost use Rattle.cow_world.specs.Fits.{KeepsFit, Serves, GoesOn};
 
 use crate::records::{Sector, Thinker};
@@ -66,12 +66,13 @@ impl World {
         Ok(())
     }
     /// Ends the mover at a place: the sector that it moved names no mover any more, and `Ended` is left at the place.
-    /// After `Memory` nothing is said of the sector and the place.
+    /// After `Memory` the world is as before, or the sector alone names no mover any more.
     pub fn end_mover(&mut self, mover: u32, sector: u32, steps: &mut Steps) -> Result<(), Memory>
         requires live { IsLive self.old }
         requires there { mover < length (parts self.old).thinkers }
         requires sector { sector < length (parts self.old).sectors }
         ensures ok { OnOk result (self.new ≡ end_mover self.old mover sector) }
+        ensures err { OnErr result ((self.new ≡ self.old) ⊎ (self.new ≡ unnamed self.old sector)) }
 
         ensures fits { OnOk result (moved_by (thinker_at self.old mover) ≡ Some sector → KeepsFit self.old self.new) }
 

@@ -27,7 +27,7 @@ use std::marker::Model;
 /// - the player, the random index, the level time, the number of tics, and how the level was left.
 ///
 /// Each place that it keeps is in range. Its lists lie in pages that forks share. After want of memory a world is as it
-/// was before the call.
+/// was before the call, but for `end_mover`, which says what it may have done.
 #[derive(Drop)]
 pub struct World {
     pub(crate) lists: Lists,

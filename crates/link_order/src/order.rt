@@ -1,5 +1,5 @@
 // The order of linking.
-ghost use Rattle.std.specs.Prelude.{◌≡◌, ◌++◌, ◌<◌, [], All, OnOk, IfOk, IfSome};
+ghost use Rattle.std.specs.Prelude.{◌≡◌, ◌++◌, ◌<◌, [], All, OnOk, OnErr, IfOk, IfSome};
 ghost use Rattle.link_order.specs.Links.{linked_first, block_things, EachOnce, IsWithin};
 
 use crate::base::Base;
@@ -82,6 +82,7 @@ impl LinkOrder {
         ensures order { self.new.order ≡ self.old.order }
         ensures blocks { self.new.blocks ≡ self.old.blocks }
         ensures room { OnOk result (0 < self.new.room) }
+        ensures err { OnErr result (self.new ≡ self.old) }
     {
         if self.recent.has_room() {
             return Ok(());
@@ -94,6 +95,7 @@ impl LinkOrder {
         ensures order { self.new.order ≡ self.old.order }
         ensures blocks { self.new.blocks ≡ self.old.blocks }
         ensures room { OnOk result (0 < self.new.room) }
+        ensures err { OnErr result (self.new ≡ self.old) }
     {
         let base = self.settled(alloc)?;
         self.base = Arc::new(alloc, base)?;

@@ -216,7 +216,7 @@ fn move_slowing(
 ///
 /// # Errors
 ///
-/// A halt of a try or a slide.
+/// A halt of a try or a slide. After it, and after want of memory, nothing is said of the world.
 #[tactic(auto, unfolding(crate::specs::Moves::xy_of))]
 pub fn xy_move(
     alloc: Global,

@@ -198,7 +198,8 @@ fn age(world: &mut World)
 ///
 /// # Errors
 ///
-/// `Died` and `Sector` by the floor, and the halts of a use.
+/// `Died` and `Sector` by the floor, and the halts of a use. After a halt, and after want of memory, nothing is said of
+/// the world.
 #[tactic(auto, using(crate::proofs::Fitted::still_fits, crate::proofs::Fitted::still_fits_two), unfolding(crate::specs::Thinks::think_of))]
 pub fn think(
     alloc: Global,

@@ -220,7 +220,7 @@ fn settle(
 ///
 /// # Errors
 ///
-/// A halt of the check or of a crossing.
+/// A halt of the check or of a crossing. After it, and after want of memory, nothing is said of the world.
 #[tactic(auto, unfolding(crate::specs::Tries::try_of))]
 pub fn try_move(
     alloc: Global,

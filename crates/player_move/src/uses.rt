@@ -126,7 +126,8 @@ fn use_at(
 ///
 /// # Errors
 ///
-/// `Intercepts` where more than 128 lines are that near, and the halts of the line.
+/// `Intercepts` where more than 128 lines are that near, and the halts of the line. After a halt, and after want of
+/// memory, nothing is said of the world.
 #[tactic(auto, unfolding(crate::specs::Uses::use_of))]
 pub fn use_ahead(
     alloc: Global,

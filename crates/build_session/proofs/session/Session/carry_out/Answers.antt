@@ -9,7 +9,7 @@ use Rattle.build_session.specs.Session.{play_of, carried, NamesSectors}
 use Rattle.build_session.specs.Costs.{spent}
 use Rattle.build_session.specs.Runs.{state_in, refused_at, Does}
 use Rattle.build_session.proofs.Turns.{script_holds}
-use Rattle.build_session.proofs.Running.{came_start, came_next, came_stop, ends}
+use Rattle.build_session.proofs.Running.{came_start, came_next, came_stop, stands, ends}
 use Rattle.build_session.proofs.session.Session.carry_out.Goals as goal
 
 -- any entry, for places that there are not
@@ -41,6 +41,22 @@ returns-in-Err-clause-run g c =
     let stopped = c.refused_at.ensures ∙ ap (λ line. refused_at line c.in-Err.fault) (c.line.ensures.value other) in
     rw stopped
     (came_stop play game c.args.script.now c.loop-place.place other c.args.self.now c.loop-place.self c.carry.new.self c.args.steps.now.tics c.loop-place.steps.tics c.carry.new.steps.tics c.in-Err.fault inside
+    c.loop-place.invariant does)
+
+pub returns-in-Err-clause-stands : goal.returns-in-Err-clause-stands
+returns-in-Err-clause-stands g c =
+    let inside : c.loop-place.place < length c.args.script.now = subst (λ len. c.loop-place.place < len) c.len-place-end.ensures c.loop-place-test.true in
+    let play = play_of g.G.Game g.G.Details.ground_of g.G.Details.vitals_of (turns_of c.args.searcher.now g.G.Game) in
+    let game = c.args.self.now.build.game in
+    let does : Does (Err c.in-Err.fault) (carried play game (get_or c.args.script.now c.loop-place.place other).command (state_in c.loop-place.self))
+    (spent play game (get_or c.args.script.now c.loop-place.place other).command (state_in c.loop-place.self) c.loop-place.self.build.reach) c.loop-place.self c.carry.new.self c.loop-place.steps.tics c.carry.new.steps.tics =
+    subst (λ (command : Command). Does (Err c.in-Err.fault) (carried play game command (state_in c.loop-place.self)) (spent play game command (state_in c.loop-place.self) c.loop-place.self.build.reach) c.loop-place.self c.carry.new.self c.loop-place.steps.tics c.carry.new.steps.tics)
+    (c.command.ensures.value other)
+    (subst (λ game. Does (Err c.in-Err.fault) (carried play game c.command.result.now (state_in c.loop-place.self)) (spent play game c.command.result.now (state_in c.loop-place.self) c.loop-place.self.build.reach) c.loop-place.self c.carry.new.self c.loop-place.steps.tics c.carry.new.steps.tics)
+    c.loop-place.invariant.spends.game c.in-Err.ensures) in
+    let stopped = c.refused_at.ensures ∙ ap (λ line. refused_at line c.in-Err.fault) (c.line.ensures.value other) in
+    rw stopped
+    (stands play game c.args.script.now c.loop-place.place other c.args.self.now c.loop-place.self c.carry.new.self c.args.steps.now.tics c.loop-place.steps.tics c.carry.new.steps.tics c.in-Err.fault inside
     c.loop-place.invariant does)
 
 pub returns-in-Err-clause-carried : goal.returns-in-Err-clause-carried
