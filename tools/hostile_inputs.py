@@ -6,11 +6,10 @@ import hostile as h
 
 MILLION = 1_000_000
 WAD_LIMIT = 268_435_456
-SCRIPT_LIMIT = 1_048_576
 GRID = 250  # columns and rows: 62,500 blocks, so that a list behind their places can still be named
 
-PASSED, SOLID, GIANT, MARKER = 2001, 2002, 2003, 14
-KINDS = [h.kind(PASSED, 0), h.kind(SOLID, 2), h.kind(GIANT, 0, radius=15900), h.kind(MARKER, 0)]
+PASSED, GIANT, MARKER = 2001, 2003, 14
+KINDS = [h.kind(PASSED, 0), h.kind(GIANT, 0, radius=15900), h.kind(MARKER, 0)]
 TABLES = h.tables(KINDS)
 
 USE = h.tic() + h.tic(buttons=2)  # a use that is no use yet at the start, since the button counts as held
@@ -39,14 +38,13 @@ def deep_directory(size):
 
 def same_lumps(size, things=None):
     """A WAD in which all lumps but NODES, and THINGS where it is given, are the same bytes."""
-    entries = [(12, 0, b"MAP01")]
+    entries = [(12, 0, "MAP01")]
     start = 12 + 11 * 16 + 10
     for name in h.LUMPS:
         length = 0 if name in ("NODES", "REJECT") else size - start
         entries.append((start - 10, 10, name) if things and name == "THINGS" else (start, length, name))
-    names = [struct.pack("<ii8s", at, length, name if isinstance(name, bytes) else name.encode())
-             for at, length, name in entries]
-    head = b"PWAD" + struct.pack("<ii", 11, 12) + b"".join(names) + (things or h.PLAYER)
+    directory = b"".join(struct.pack("<ii8s", at, length, name.encode()) for at, length, name in entries)
+    head = b"PWAD" + struct.pack("<ii", 11, 12) + directory + (things or h.PLAYER)
     return head + b"\1\0" * ((size - start) // 2 - 1) + b"\xff\xff"
 
 
@@ -128,8 +126,8 @@ def tagged(size, across=False):
 
 
 def giant(size):
-    """A thing as wide as half the map in a sector that is lowered, where all blocks share a list of so many lines and of
-    as many rows as blocks. The player is out of its reach, and none of the lines stops it."""
+    """A thing as wide as half the map in a sector that is lowered. The blocks, in so many rows, share a list of as many
+    lines, none of which stops it. The player is out of its reach."""
     level = h.walled(h.Level(), size, x=-15990).add("THINGS", h.thing(-15990, 0, GIANT))
     level, switch = with_switch(level, 60, open_behind=True)
     rows = min(size, GRID)
@@ -159,20 +157,15 @@ def teleports(size):
     return level_files(level.wad(), script=b"put 50 0 0 0\nrepeat 199\nshow\n")
 
 
-def play(level, tics=35, script=b""):
-    """The files of a few tics in a level, the second of which presses use."""
-    tics = USE + h.tic() * (tics - 2)
-    return level_files(level.wad(), h.demo(tics), b"seek %d\nshow\n" % (len(tics) // 4) + script)
+def play(level, forward=0, count=35):
+    """The files of a few tics in a level, the second of which presses use, and the others go forward."""
+    tics = USE + h.tic(forward) * (count - 2)
+    return level_files(level.wad(), h.demo(tics), b"seek %d\nshow\n" % count)
 
 
 def glowing(size):
     level = many_of_all(size, 8)
     return level_files(level.wad(), script=b"put 0 0 0 0\nrepeat %d\nshow\n" % (size // 2 - 1))
-
-
-def scripted(lines, size, demo=h.demo()):
-    """A script that is these lines over and over, up to a size."""
-    return level_files(h.Level().wad(), demo, lines * (size // len(lines)))
 
 
 def shows(size):
