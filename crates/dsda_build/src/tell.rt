@@ -31,12 +31,16 @@ pub fn explain(rt: &HostRuntime, status: &Status, failure: &str, has_put: bool) 
     match status {
         Status::Done | Status::Refused(_) => {}
         Status::Usage => say(rt, USAGE),
-        Status::ReadFault | Status::WriteFault => {
-            say(rt, failure);
+        Status::ReadFault => {
+            say_failure(rt, failure, "cannot read an input");
+            say(rt, "\n");
+        }
+        Status::WriteFault => {
+            say_failure(rt, failure, "cannot write OUT");
             say(rt, "\n");
         }
         Status::NoteFault => {
-            say(rt, failure);
+            say_failure(rt, failure, "cannot write the report");
             say_written(rt, has_put);
         }
         Status::Memory => {
@@ -44,6 +48,18 @@ pub fn explain(rt: &HostRuntime, status: &Status, failure: &str, has_put: bool) 
             say_written(rt, has_put);
         }
     }
+}
+
+/// Says what failed, or this where there was no memory for its name and reason.
+fn say_failure(rt: &HostRuntime, failure: &str, otherwise: &str) {
+    say(
+        rt,
+        if failure.is_empty() {
+            otherwise
+        } else {
+            failure
+        },
+    );
 }
 
 fn say_written(rt: &HostRuntime, has_put: bool) {

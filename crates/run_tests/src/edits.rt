@@ -79,24 +79,6 @@ fn expect_refusals(
     Ok(())
 }
 
-/// What an edit of a demo without tics comes to: which calls fail, the script, the status, whether the demo is put, and
-/// the text that is pushed.
-type Faults<'a> = &'a [(Failing, &'a [u8], u8, bool, &'a [u8])];
-
-fn expect_faults(
-    rt: &(impl Abort + Threads + Sync),
-    alloc: Global,
-    rows: Faults<'_>,
-) -> Result<(), Fail> {
-    for (failing, script, status, put, text) in rows {
-        let left = ran(rt, alloc, &EDIT, EMPTY, script, *failing)?;
-        assert_eq!(rt; left.status.number(), *status, "{script:?}");
-        assert_eq!(rt; left.shelf.file("out.lmp").is_some(), *put, "{script:?}");
-        assert_eq!(rt; left.note.bytes(), *text);
-    }
-    Ok(())
-}
-
 /// Asserts that these words, with devices that always fail, are no command line.
 fn expect_usage(
     rt: &(impl Abort + Threads + Sync),
@@ -285,74 +267,6 @@ fn a_file_above_its_limit_is_refused(rt: HostRuntime) -> Result<(), Fail> {
         &[
             (b"", &script, b"refused: word 2 too large\n"),
             (&demo, &script, b"refused: word 1 too large\n"),
-        ],
-    )
-}
-
-#[test]
-fn a_failing_device_ends_the_run(rt: HostRuntime) -> Result<(), Fail> {
-    expect_faults(
-        &rt,
-        rt.alloc(),
-        &[
-            (
-                Failing {
-                    takes: &[0],
-                    ..NONE
-                },
-                b"",
-                3,
-                false,
-                b"",
-            ),
-            (
-                Failing {
-                    takes: &[1],
-                    ..NONE
-                },
-                b"jump",
-                3,
-                false,
-                b"",
-            ),
-            (
-                Failing {
-                    takes: &[2],
-                    ..NONE
-                },
-                b"",
-                0,
-                true,
-                b"",
-            ),
-            (Failing { puts: &[0], ..NONE }, b"", 4, false, b""),
-            (
-                Failing { puts: &[0], ..NONE },
-                b"cut 1",
-                1,
-                false,
-                b"refused: line 1: word\n",
-            ),
-            (
-                Failing {
-                    pushes: &[0],
-                    ..NONE
-                },
-                b"cut 1",
-                5,
-                false,
-                b"refused: li",
-            ),
-            (
-                Failing {
-                    pushes: &[0],
-                    ..NONE
-                },
-                b"",
-                0,
-                true,
-                b"",
-            ),
         ],
     )
 }

@@ -1,5 +1,5 @@
 //! `level` over files in memory.
-use crate::over::{Failing, Left, NONE, ran_over};
+use crate::over::{Left, NONE, ran_over};
 use sample_inputs::{
     PlanKind, PlanNode, PlanThing, demo, demo_of_zeros, header_at, play_tables, play_tables_of,
     single_room, two_sectors, wad,
@@ -32,10 +32,9 @@ fn reported(
     maps: &[u8],
     tables: &[u8],
     demo: &[u8],
-    failing: Failing,
 ) -> Result<Left, Fail> {
     let files = [("maps.wad", maps), ("play.ptab", tables), ("in.lmp", demo)];
-    ran_over(rt, alloc, &LEVEL, &files, failing)
+    ran_over(rt, alloc, &LEVEL, &files, NONE)
 }
 
 /// Files, the number that `level` over them ends with, and what it prints.
@@ -47,7 +46,7 @@ fn expect_reports(
     rows: Reports<'_>,
 ) -> Result<(), Fail> {
     for (maps, tables, demo, status, text) in rows {
-        let left = reported(rt, alloc, maps, tables, demo, NONE)?;
+        let left = reported(rt, alloc, maps, tables, demo)?;
         assert_eq!(rt; left.note.bytes(), *text);
         assert_eq!(rt; left.status.number(), *status);
     }
@@ -246,7 +245,7 @@ fn expect_patches(
     let empty = demo_of_zeros(alloc, 0)?;
     for (at, by, line) in rows {
         let maps = patched(alloc, &room, *at, by)?;
-        let left = reported(rt, alloc, &maps, &tables, &empty, NONE)?;
+        let left = reported(rt, alloc, &maps, &tables, &empty)?;
         assert_eq!(rt; left.note.bytes(), *line);
         assert_eq!(rt; left.status.number(), 1);
     }
@@ -328,7 +327,7 @@ fn expect_cut_maps(
     let tables = play_tables(alloc)?;
     let empty = demo_of_zeros(alloc, 0)?;
     for len in 0..maps.len() {
-        let left = reported(rt, alloc, &maps[..len], &tables, &empty, NONE)?;
+        let left = reported(rt, alloc, &maps[..len], &tables, &empty)?;
         let line: &[u8] = if len < 12 {
             b"refused: wad head\n"
         } else {
@@ -354,7 +353,7 @@ fn expect_cut_tables(
         (TABLES_LEN - 1, b"refused: tables length\n".as_slice()),
     ] {
         let cut = tables.get(..len).unwrap_or(&[]);
-        let left = reported(rt, alloc, &maps, cut, &empty, NONE)?;
+        let left = reported(rt, alloc, &maps, cut, &empty)?;
         assert_eq!(rt; left.note.bytes(), line, "{len}");
     }
     Ok(())
@@ -369,7 +368,7 @@ fn expect_cut_demos(
     let maps = room(alloc)?;
     let tables = play_tables(alloc)?;
     for len in 0..demo.len() {
-        let left = reported(rt, alloc, &maps, &tables, &demo[..len], NONE)?;
+        let left = reported(rt, alloc, &maps, &tables, &demo[..len])?;
         let line = format!(in alloc; "refused: demo cut at {len}\n")?;
         assert_eq!(rt; left.note.bytes(), line.as_bytes());
     }
@@ -387,38 +386,4 @@ fn each_file_may_be_cut_anywhere(rt: HostRuntime) -> Result<(), Fail> {
     expect_cut_maps(&rt, alloc, &maps)?;
     expect_cut_tables(&rt, alloc, &tables)?;
     expect_cut_demos(&rt, alloc, &played)
-}
-
-#[test]
-fn a_level_needs_no_put(rt: HostRuntime) -> Result<(), Fail> {
-    let alloc = rt.alloc();
-    let maps = room(alloc)?;
-    let tables = play_tables(alloc)?;
-    let empty = demo_of_zeros(alloc, 0)?;
-    let half = &ROOM_REPORT[..ROOM_REPORT.len() / 2];
-    let rows: &[(Failing, u8, &[u8])] = &[
-        (Failing { puts: &[0], ..NONE }, 0, ROOM_REPORT),
-        (
-            Failing {
-                takes: &[2],
-                ..NONE
-            },
-            3,
-            b"",
-        ),
-        (
-            Failing {
-                pushes: &[0],
-                ..NONE
-            },
-            5,
-            half,
-        ),
-    ];
-    for (failing, status, text) in rows {
-        let left = reported(&rt, alloc, &maps, &tables, &empty, *failing)?;
-        assert_eq!(rt; left.note.bytes(), *text);
-        assert_eq!(rt; left.status.number(), *status);
-    }
-    Ok(())
 }

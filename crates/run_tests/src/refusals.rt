@@ -1,6 +1,6 @@
-//! What is refused, and devices that fail.
+//! What is refused.
 use crate::maps::{Map, no_tics, tables, wad_of};
-use crate::over::{BUILD, Failing, NONE, SIM, ran_over, ran_session};
+use crate::over::{BUILD, NONE, SIM, ran_over, ran_session};
 use doom_edge::NoGate;
 use std::test::Fail;
 
@@ -63,68 +63,6 @@ fn scripts_and_orders_are_refused(rt: HostRuntime) -> Result<(), Fail> {
         assert_eq!(&rt; left.note.bytes(), line);
         assert_eq!(&rt; left.status.number(), 1);
         assert!(&rt; left.shelf.file("out.lmp").is_none(), "{line:?}");
-    }
-    Ok(())
-}
-
-/// The calls that fail, and the status.
-const FAILURES: [(Failing, u8); 6] = [
-    (
-        Failing {
-            takes: &[0],
-            ..NONE
-        },
-        3,
-    ),
-    (
-        Failing {
-            takes: &[2],
-            ..NONE
-        },
-        3,
-    ),
-    (
-        Failing {
-            takes: &[4],
-            ..NONE
-        },
-        3,
-    ),
-    (Failing { puts: &[0], ..NONE }, 4),
-    (
-        Failing {
-            pushes: &[0],
-            ..NONE
-        },
-        5,
-    ),
-    (NONE, 0),
-];
-
-#[test]
-fn devices_fail(rt: HostRuntime) -> Result<(), Fail> {
-    let alloc = rt.alloc();
-    let wad = wad_of(alloc, Map::Room)?;
-    let tables = tables(alloc)?;
-    let demo = no_tics(alloc)?;
-    for (failing, status) in FAILURES {
-        let left = ran_session(
-            &rt,
-            &NoGate,
-            alloc,
-            &SIM,
-            &wad,
-            &tables,
-            &demo,
-            b"put 50 0 0 0\nshow\n",
-            b"",
-            failing,
-        )?;
-        assert_eq!(&rt; left.status.number(), status);
-        assert_eq!(&rt;
-            left.shelf.file("out.lmp").is_some(),
-            status == 0 || status == 5
-        );
     }
     Ok(())
 }
