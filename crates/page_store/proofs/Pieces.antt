@@ -1,13 +1,15 @@
 -- Lists in pieces of 32: piece k begins at item 32 * k.
-use Rattle.std.proofs.Common.{◌≡◌, ◌≢◌, ℕ, ◌+◌, ◌-◌, ◌*◌, ◌/◌, ◌%◌, ◌<◌, ◌≤◌, ◌⊎◌, inl, inr, List, Some, [], ◌∷◌, ◌++◌, length, get_or, set, take, drop, min, slice_get, Result, Ok, Err, OnErr, refl, sym, ap, ◌∙◌, arith, length-append, length-set, append_assoc, zero, suc}
+use Rattle.std.proofs.Common.{◌≡◌, ◌≢◌, ℕ, ◌+◌, ◌-◌, ◌*◌, ◌/◌, ◌%◌, ◌<◌, ◌≤◌, ◌⊎◌, inl, inr, List, Some, [], ◌∷◌, ◌++◌, length, get_or, set, take, drop, min, slice_get, Result, Ok, Err, OnErr, refl, sym, ap, ◌∙◌, arith, length-append, length-set, append_assoc, zero, suc, map, subst}
 use Rattle.std.proofs.Math.Seq.{take-add}
-use Rattle.std.proofs.lemmas.List.{append-nil, length-take, length-drop, take_all, take_min, drop_all, get_or-take, get_or_append_left, get_or-append_right, set-append_left, set-append_right, length-map, get_or-map, map-set, set-get_or, map-append, take_more}
+use Rattle.std.proofs.lemmas.List.{append-nil, length-take, length-drop, take_all, take_min, drop_all, get_or-take, get_or_append_left, get_or-append_right, set-append_left, set-append_right, length-map, get_or-map, get_or_past, get_or-drop, map-set, set-get_or, map-append, take_more, drop-drop, drop_at, take-append-le}
 use Rattle.std.proofs.lemmas.Bool.{cases_lt, eq-eqb, ne_eqb}
 use Rattle.std.proofs.lemmas.Grind.{flat_map-append}
 use Rattle.std.proofs.lemmas.Option.{slice_get-get_or, get_or_from_slice_get}
-use Rattle.page_store.specs.Pages.{items_of, pieces_of, joined, ArePages, IsStore, IsLaidOut, seen_in, page_count}
+use Rattle.page_store.specs.Under.{laid_under, AreTabled}
+use Rattle.page_store.specs.Pages.{named_items, named_pieces, items_of, pieces_of, joined, ArePages, IsStore, IsLaidOut, seen_in, page_count}
+use Rattle.page_store.specs.declared.settled.Named.{Named}
 use Rattle.page_store.specs.declared.page.Page.{Page}
-use Rattle.page_store.specs.declared.page.Page.TheVariants.{Based}
+use Rattle.page_store.specs.declared.page.Page.TheVariants.{Under}
 
 -- a place of the list is a place of a piece
 pub place : {X : Type 0} (ps : List (List X)) (k r : ℕ) → ArePages ps → r < 32 → 32 * k + r < length (joined ps)
@@ -107,6 +109,20 @@ length-pages [] paged = refl
 length-pages (p ∷ []) paged = omega (arith, paged, length-append p [])
 length-pages (p ∷ q ∷ rest) paged = omega (arith, paged.0, length-append p (joined (q ∷ rest)), length-pages (q ∷ rest) paged.1)
 
+-- a piece is cut from the whole at its place
+pub piece_cut : {X : Type 0} (ps : List (List X)) (k : ℕ) → ArePages ps → take 32 (drop (32 * k) (joined ps)) ≡ get_or ps k []
+piece_cut [] k paged = ap (take 32) (drop_all (32 * k) [] (omega arith))
+piece_cut (p ∷ []) zero paged = ap (take 32) (append-nil p) ∙ take_all 32 p (omega (arith, paged.1))
+piece_cut (p ∷ []) (suc k) paged = ap (take 32) (drop_all (32 * suc k) (p ++ []) (omega (arith, length-append p [], paged.1)))
+piece_cut (p ∷ q ∷ rest) zero paged =
+    take-append-le 32 p (joined (q ∷ rest)) (omega (arith, paged.0)) ∙ take_all 32 p (omega (arith, paged.0))
+piece_cut (p ∷ q ∷ rest) (suc k) paged =
+    ap (take 32) (
+    ap (λ n. drop n (p ++ joined (q ∷ rest))) (let e : 32 * suc k ≡ 32 + 32 * k = omega arith in e)
+    ∙ sym (drop-drop (32 * k) 32 (p ++ joined (q ∷ rest)))
+    ∙ ap (drop (32 * k)) (drop_at p (joined (q ∷ rest)) 32 paged.0))
+    ∙ piece_cut (q ∷ rest) k paged.1
+
 -- what is dropped past the end is all
 pub front_dropped : {X : Type 0} (base : List X) (start from : ℕ) → from ≡ min start (length base)
     → (length base < start) ⊎ (start ≤ length base) → drop from base ≡ drop start base
@@ -143,8 +159,62 @@ based_item base start at item there is =
     ∙ sym is)
 
 -- item i is in page i / 32, at i % 32
-halves : (i : ℕ) → 32 * (i / 32) + i % 32 ≡ i
+pub halves : (i : ℕ) → 32 * (i / 32) + i % 32 ≡ i
 halves i = omega arith
+
+-- an item of a page that is cut from a list is an item of the list
+pub cut_within : {X : Type 0} (xs : List X) (start at : ℕ) → at < length (take 32 (drop start xs)) → (at < 32) × (start + at < length xs)
+cut_within xs start at there =
+    let size = length-take 32 (drop start xs) in
+    let left = length-drop start xs in
+    (omega (arith, there, size, left), omega (arith, there, size, left))
+
+pub cut_item : {X : Type 0} (xs : List X) (start at : ℕ) (item : X) → at < length (take 32 (drop start xs)) → slice_get xs (start + at) ≡ Some item
+    → slice_get (take 32 (drop start xs)) at ≡ Some item
+cut_item xs start at item there is =
+    slice_get-get_or (take 32 (drop start xs)) at item there
+    ∙ ap Some (
+    get_or-take 32 (drop start xs) at item (cut_within xs start at there).0
+    ∙ get_or-drop start xs at item
+    ∙ get_or_from_slice_get xs (start + at) item item is)
+
+-- ---- the pages of a table
+
+module _ {T : Type 0} (base : List T) (table : List (Named T)) (paged : ArePages (named_pieces base table)) where
+  tabled_is : (k : ℕ) (page : Named T) → k < length table → page ≡ get_or table k page → get_or (named_pieces base table) k [] ≡ named_items base page
+  tabled_is k page there is = get_or-map (named_items base) table k page [] there ∙ ap (named_items base) (sym is)
+
+  -- the page of an item is there
+  pub tabled_there : (k at : ℕ) → at < 32 → 32 * k + at < length (joined (named_pieces base table)) → k < length table
+  tabled_there k at small there =
+      let found = place (named_pieces base table) k at paged small there in
+      omega (arith, found.0, length-map table (named_items base))
+
+  -- the place of the item is within it
+  pub tabled_within : (k at : ℕ) (page : Named T) → at < 32 → 32 * k + at < length (joined (named_pieces base table)) → page ≡ get_or table k page → at < length (named_items base page)
+  tabled_within k at page small there is =
+      let found = place (named_pieces base table) k at paged small there in
+      omega (arith, found.1, ap length (tabled_is k page (tabled_there k at small there) is))
+
+  -- and there it stands
+  pub tabled_item : (k at : ℕ) (page : Named T) (item : T) → at < 32 → 32 * k + at < length (joined (named_pieces base table)) → page ≡ get_or table k page
+      → slice_get (named_items base page) at ≡ Some item → slice_get (joined (named_pieces base table)) (32 * k + at) ≡ Some item
+  tabled_item k at page item small there page_here item_here =
+      slice_get-get_or (joined (named_pieces base table)) (32 * k + at) item there
+      ∙ ap Some (
+      get_or-joined (named_pieces base table) k at item paged small there
+      ∙ ap (λ items. get_or items at item) (tabled_is k page (tabled_there k at small there) page_here)
+      ∙ get_or_from_slice_get (named_items base page) at item item item_here)
+
+  -- page k is cut from the whole
+  pub tabled_cut : (k : ℕ) (page : Named T) → k < length table → page ≡ get_or table k page → named_items base page ≡ take 32 (drop (32 * k) (joined (named_pieces base table)))
+  tabled_cut k page there is = sym (piece_cut (named_pieces base table) k paged ∙ tabled_is k page there is)
+
+  -- past the last page there is nothing
+  pub tabled_past : (k : ℕ) → length table ≤ k → take 32 (drop (32 * k) (joined (named_pieces base table))) ≡ []
+  tabled_past k past =
+      piece_cut (named_pieces base table) k paged
+      ∙ get_or_past (named_pieces base table) k [] (omega (arith, past, length-map table (named_items base)))
 
 -- the page of item i is there
 pub place_of : {T : Type 0} (base : List T) (pages : List (Page T)) (i : ℕ) → ArePages (pieces_of base pages) → i < length (joined (pieces_of base pages))
@@ -249,35 +319,36 @@ grown base pages len page after item store room page_here is =
       rw same (joined_grown (pieces_of base pages) (len / 32) (item ∷ []) last.0),
     )
 
--- The pages over a base, one after the other: all pages so far are full, and the next one takes what comes next.
-pub based_more : {T : Type 0} (base : List T) (pages : List (Page T)) (k : ℕ) → ArePages (pieces_of base pages)
-    → joined (pieces_of base pages) ≡ take (32 * k) base → 32 * k < length base
-    → ArePages (pieces_of base (pages ++ Based (32 * k) ∷ [])) × (joined (pieces_of base (pages ++ Based (32 * k) ∷ [])) ≡ take (32 * (k + 1)) base)
-based_more base pages k paged so_far there =
-    let piece : items_of base (Based (32 * k)) ≡ take 32 (drop (32 * k) base) = refl in
-    let same : pieces_of base (pages ++ Based (32 * k) ∷ []) ≡ pieces_of base pages ++ take 32 (drop (32 * k) base) ∷ [] =
-    map-append (items_of base) pages (Based (32 * k) ∷ []) in
-    let full : length (joined (pieces_of base pages)) ≡ 32 * k = omega (arith, ap length so_far, length-take (32 * k) base) in
-    let size = length-take 32 (drop (32 * k) base) in
-    let left = length-drop (32 * k) base in (
-      rw same (ArePages-push (pieces_of base pages) k (take 32 (drop (32 * k) base)) paged full (omega (arith, size, left)) (omega (arith, size))),
+-- The pages over a list, one after the other: all pages so far are full, and the next one takes what comes next.
+pub under_more : {T : Type 0} (under : List T) (pages : List (Page T)) (k : ℕ) → ArePages (pieces_of under pages)
+    → joined (pieces_of under pages) ≡ take (32 * k) under → 32 * k < length under
+    → ArePages (pieces_of under (pages ++ Under (32 * k) ∷ [])) × (joined (pieces_of under (pages ++ Under (32 * k) ∷ [])) ≡ take (32 * (k + 1)) under)
+under_more under pages k paged so_far there =
+    let piece : items_of under (Under (32 * k)) ≡ take 32 (drop (32 * k) under) =
+    ap (λ n. take 32 (drop n under)) (let e : 32 * (32 * k / 32) ≡ 32 * k = omega arith in e) in
+    let same : pieces_of under (pages ++ Under (32 * k) ∷ []) ≡ pieces_of under pages ++ take 32 (drop (32 * k) under) ∷ [] =
+    map-append (items_of under) pages (Under (32 * k) ∷ []) ∙ ap (λ items. pieces_of under pages ++ items ∷ []) piece in
+    let full : length (joined (pieces_of under pages)) ≡ 32 * k = omega (arith, ap length so_far, length-take (32 * k) under) in
+    let size = length-take 32 (drop (32 * k) under) in
+    let left = length-drop (32 * k) under in (
+      rw same (ArePages-push (pieces_of under pages) k (take 32 (drop (32 * k) under)) paged full (omega (arith, size, left)) (omega (arith, size))),
       rw same (
-          flat_map-append (λ piece. piece) (pieces_of base pages) (take 32 (drop (32 * k) base) ∷ [])
-          ∙ ap (λ items. joined (pieces_of base pages) ++ items) (append-nil (take 32 (drop (32 * k) base)))
-          ∙ ap (λ items. items ++ take 32 (drop (32 * k) base)) so_far
-          ∙ sym (take-add (32 * k) 32 base)
-          ∙ ap (λ n. take n base) (let e : 32 * k + 32 ≡ 32 * (k + 1) = omega arith in e)),
+          flat_map-append (λ piece. piece) (pieces_of under pages) (take 32 (drop (32 * k) under) ∷ [])
+          ∙ ap (λ items. joined (pieces_of under pages) ++ items) (append-nil (take 32 (drop (32 * k) under)))
+          ∙ ap (λ items. items ++ take 32 (drop (32 * k) under)) so_far
+          ∙ sym (take-add (32 * k) 32 under)
+          ∙ ap (λ n. take n under) (let e : 32 * k + 32 ≡ 32 * (k + 1) = omega arith in e)),
     )
 
--- one more page has a second name
-pub named_more : {T : Type 0} (base : List T) (named : List (Page T)) (pieces : List (List T)) (k : ℕ) (pages : List (Page T)) (page more : Page T)
-    → pieces_of base named ≡ take k pieces → pieces_of base pages ≡ pieces → k < length pages → page ≡ get_or pages k page → items_of base more ≡ items_of base page
-    → pieces_of base (named ++ more ∷ []) ≡ take (k + 1) pieces
-named_more base named pieces k pages page more so_far same there page_here is =
-    let within : k < length pieces = omega (arith, ap length same, length-map pages (items_of base)) in
-    map-append (items_of base) named (more ∷ [])
-    ∙ ap (λ items. items ++ items_of base more ∷ []) so_far
-    ∙ ap (λ items. take k pieces ++ items ∷ []) (is ∙ sym (page_is base pages k page there page_here) ∙ ap (λ items. get_or items k []) same)
+-- one more page is named
+pub named_more : {T : Type 0} (base under : List T) (named : List (Named T)) (pieces : List (List T)) (k : ℕ) (pages : List (Page T)) (page : Page T) (more : Named T)
+    → named_pieces base named ≡ take k pieces → pieces_of under pages ≡ pieces → k < length pages → page ≡ get_or pages k page → named_items base more ≡ items_of under page
+    → named_pieces base (named ++ more ∷ []) ≡ take (k + 1) pieces
+named_more base under named pieces k pages page more so_far same there page_here is =
+    let within : k < length pieces = omega (arith, ap length same, length-map pages (items_of under)) in
+    map-append (named_items base) named (more ∷ [])
+    ∙ ap (λ items. items ++ named_items base more ∷ []) so_far
+    ∙ ap (λ items. take k pieces ++ items ∷ []) (is ∙ sym (page_is under pages k page there page_here) ∙ ap (λ items. get_or items k []) same)
     ∙ sym (take_more pieces k [] within)
 
 -- a fact that holds at an error
@@ -348,3 +419,49 @@ seen-same base (page ∷ pages) (other ∷ others) len same = ap joined same
 
 pub store-same : {T : Type 0} (base : List T) (pages other : List (Page T)) (len : ℕ) → pieces_of base other ≡ pieces_of base pages → IsStore base pages len → IsStore base other len
 store-same base pages other len same store = record { paged = rw same store.paged; counted = ap length (seen-same base pages other len same) ∙ store.counted }
+
+-- ---- tables that a list keeps, none or one
+
+module _ {T A : Type 0} (items : A → List (Named T)) (base : List T) where
+  pub none_under : (tables : List A) → length tables ≡ 0 → laid_under base (map items tables) ≡ base
+  none_under [] none = refl
+  none_under (table ∷ tables) none = absurd (omega (arith, none))
+
+  pub none_tabled : (tables : List A) → length tables ≡ 0 → AreTabled base (map items tables)
+  none_tabled [] none = tt
+  none_tabled (table ∷ tables) none = absurd (omega (arith, none))
+
+  pub one_under : (tables : List A) (table : A) → (length tables ≡ 0 → ⊥) → table ≡ get_or tables 0 table
+      → laid_under base (map items tables) ≡ joined (named_pieces base (items table))
+  one_under [] table some is = absurd (some refl)
+  one_under (first ∷ tables) table some is = ap (λ t. joined (named_pieces base (items t))) (sym is)
+
+  pub one_tabled : (tables : List A) (table : A) → (length tables ≡ 0 → ⊥) → table ≡ get_or tables 0 table
+      → AreTabled base (map items tables) → ArePages (named_pieces base (items table))
+  one_tabled [] table some is paged = absurd (some refl)
+  one_tabled (first ∷ tables) table some is paged = subst (λ t. ArePages (named_pieces base (items t))) (sym is) paged
+
+-- ---- a list whose pages were settled
+
+-- it has the items of the table, and no pages
+pub settled_whole : {T : Type 0} (before after : List T) (pages none : List (Page T)) (len : ℕ) → IsStore before pages len → (length pages ≡ 0 → ⊥)
+    → after ≡ joined (pieces_of before pages) → none ≡ [] → (seen_in after none len ≡ seen_in before pages len) × IsStore after none len
+settled_whole before after pages none len store some is empty =
+    let whole : after ≡ seen_in before pages len = is ∙ laid_out before pages len store (λ no_pages. absurd (some no_pages)) in
+    let both = is-base after none len (ap length empty) (ap length whole ∙ store.counted) in
+    (both.0 ∙ whole, both.1)
+
+-- a list over the same items
+pub seen_over : {T : Type 0} (before after : List T) (pages other : List (Page T)) (len : ℕ) → after ≡ before → other ≡ pages → seen_in after other len ≡ seen_in before pages len
+seen_over before after pages other len same alike = ap (λ xs. seen_in xs other len) same ∙ ap (λ xs. seen_in before xs len) alike
+
+pub store_over : {T : Type 0} (before after : List T) (pages other : List (Page T)) (len : ℕ) → after ≡ before → other ≡ pages → IsStore before pages len → IsStore after other len
+store_over before after pages other len same alike store = subst (λ xs. IsStore xs other len) (sym same) (subst (λ xs. IsStore before xs len) (sym alike) store)
+
+-- a list that keeps one table
+module _ {T A : Type 0} (items : A → List (Named T)) (base : List T) (tables : List A) (table : A) (is : tables ≡ table ∷ []) where
+  pub single_under : laid_under base (map items tables) ≡ joined (named_pieces base (items table))
+  single_under = ap (λ kept. laid_under base (map items kept)) is
+
+  pub single_tabled : ArePages (named_pieces base (items table)) → AreTabled base (map items tables)
+  single_tabled paged = subst (λ kept. AreTabled base (map items kept)) (sym is) paged

@@ -3,6 +3,8 @@
 
 mod page;
 mod pages;
+mod part;
+mod settled;
 mod store;
 
 pub use pages::Pages;

@@ -1,20 +1,20 @@
 // A page of a store.
-ghost use Rattle.std.specs.Prelude.{◌≡◌, ◌+◌, ◌<◌, ◌≤◌, List, [], ◌∷◌, ◌++◌, length, slice_get, slice_set, take, drop, Some, OnOk, OnErr, IfOk};
-ghost use Rattle.page_store.specs.Pages.{items_of};
+ghost use Rattle.std.specs.Prelude.{◌≡◌, ◌+◌, ◌<◌, ◌≤◌, List, [], ◌∷◌, ◌++◌, length, slice_get, slice_set, Some, OnOk, OnErr, IfOk};
+ghost use Rattle.page_store.specs.Pages.{items_of, named_items};
+ghost use Rattle.page_store.specs.Under.{under, AreSettled};
 
+use crate::part::{PAGE_LEN, copy_of};
+use crate::settled::{Named, Settled};
 use doom_edge::{Memory, Steps};
 use std::alloc::Global;
 use std::mem;
 use std::sync::Arc;
 
-/// How many items a page holds.
-pub const PAGE_LEN: usize = 32;
-
 /// A page of a store. Only an owned page is ever changed.
 #[derive(Drop)]
 pub enum Page<T> {
-    /// The items of the store's base from this place on. To name it once more costs a copy of the place.
-    Based(usize),
+    /// What the last fork found in the page in which this place is.
+    Under(usize),
     Owned(Vec<T>),
     Shared(Arc<Vec<T>>),
 }
@@ -22,7 +22,7 @@ pub enum Page<T> {
 impl<T: Copy> Page<T> {
     /// A page of one item.
     pub fn of(alloc: Global, item: T, steps: &mut Steps) -> Result<Page<T>, Memory>
-        ensures ok { (base : List T) → IfOk result (λ page. items_of base page ≡ item ∷ []) }
+        ensures ok { (under : List T) → IfOk result (λ page. items_of under page ≡ item ∷ []) }
         ensures tics { steps.new.tics ≡ steps.old.tics }
         ensures least { steps.old.pages ≤ steps.new.pages }
         ensures most { steps.new.pages ≤ steps.old.pages + 1 }
@@ -34,15 +34,13 @@ impl<T: Copy> Page<T> {
     }
 
     /// The item at a place.
-    pub fn item(&self, base: &[T], at: usize) -> T
-        requires { at < length (items_of base.now self.now) }
-        ensures { slice_get (items_of base.now self.now) at ≡ Some result }
+    pub fn item(&self, base: &[T], settled: &Settled<T>, at: usize) -> T
+        requires settled { AreSettled base.now settled.now }
+        requires there { at < length (items_of (under base.now settled.now) self.now) }
+        ensures { slice_get (items_of (under base.now settled.now) self.now) at ≡ Some result }
     {
         match self {
-            Page::Based(start) => {
-                let rest = &base[*start..];
-                rest[at]
-            }
+            Page::Under(start) => settled.item(base, *start / PAGE_LEN, at),
             Page::Owned(items) => items.as_slice()[at],
             Page::Shared(items) => items.as_slice()[at],
         }
@@ -53,18 +51,20 @@ impl<T: Copy> Page<T> {
         &mut self,
         alloc: Global,
         base: &[T],
+        settled: &Settled<T>,
         at: usize,
         item: T,
         steps: &mut Steps,
     ) -> Result<(), Memory>
-        requires { at < length (items_of base.now self.old) }
-        ensures ok { OnOk result (items_of base.now self.new ≡ slice_set (items_of base.now self.old) at item) }
-        ensures err { OnErr result (items_of base.now self.new ≡ items_of base.now self.old) }
+        requires settled { AreSettled base.now settled.now }
+        requires there { at < length (items_of (under base.now settled.now) self.old) }
+        ensures ok { OnOk result (items_of (under base.now settled.now) self.new ≡ slice_set (items_of (under base.now settled.now) self.old) at item) }
+        ensures err { OnErr result (items_of (under base.now settled.now) self.new ≡ items_of (under base.now settled.now) self.old) }
         ensures tics { steps.new.tics ≡ steps.old.tics }
         ensures least { steps.old.pages ≤ steps.new.pages }
-        ensures most { steps.new.pages ≤ steps.old.pages + length (items_of base.now self.old) + 1 }
+        ensures most { steps.new.pages ≤ steps.old.pages + length (items_of (under base.now settled.now) self.old) + 1 }
     {
-        let mut items = self.take(alloc, base, steps)?;
+        let mut items = self.take(alloc, base, settled, steps)?;
         steps.page();
         items[at] = item;
         *self = Page::Owned(items);
@@ -76,16 +76,18 @@ impl<T: Copy> Page<T> {
         &mut self,
         alloc: Global,
         base: &[T],
+        settled: &Settled<T>,
         item: T,
         steps: &mut Steps,
     ) -> Result<(), Memory>
-        ensures ok { OnOk result (items_of base.now self.new ≡ items_of base.now self.old ++ item ∷ []) }
-        ensures err { OnErr result (items_of base.now self.new ≡ items_of base.now self.old) }
+        requires { AreSettled base.now settled.now }
+        ensures ok { OnOk result (items_of (under base.now settled.now) self.new ≡ items_of (under base.now settled.now) self.old ++ item ∷ []) }
+        ensures err { OnErr result (items_of (under base.now settled.now) self.new ≡ items_of (under base.now settled.now) self.old) }
         ensures tics { steps.new.tics ≡ steps.old.tics }
         ensures least { steps.old.pages ≤ steps.new.pages }
-        ensures most { steps.new.pages ≤ steps.old.pages + length (items_of base.now self.old) + 1 }
+        ensures most { steps.new.pages ≤ steps.old.pages + length (items_of (under base.now settled.now) self.old) + 1 }
     {
-        let mut items = self.take(alloc, base, steps)?;
+        let mut items = self.take(alloc, base, settled, steps)?;
         steps.page();
         let pushed = items.push(item);
         *self = Page::Owned(items);
@@ -93,19 +95,26 @@ impl<T: Copy> Page<T> {
         Ok(())
     }
 
-    /// Makes an owned page shared, and gives the page a second name.
-    pub fn share(&mut self, alloc: Global, steps: &mut Steps) -> Result<Page<T>, Memory>
-        ensures ok { (base : List T) → IfOk result (λ page. items_of base page ≡ items_of base self.old) }
-        ensures kept { (base : List T) → items_of base self.new ≡ items_of base self.old }
+    /// Makes an owned page shared, and names the page for a table.
+    pub fn share(
+        &mut self,
+        alloc: Global,
+        base: &[T],
+        settled: &Settled<T>,
+        steps: &mut Steps,
+    ) -> Result<Named<T>, Memory>
+        requires { AreSettled base.now settled.now }
+        ensures ok { IfOk result (λ named. named_items base.now named ≡ items_of (under base.now settled.now) self.old) }
+        ensures kept { (under : List T) → items_of under self.new ≡ items_of under self.old }
         ensures tics { steps.new.tics ≡ steps.old.tics }
         ensures least { steps.old.pages ≤ steps.new.pages }
         ensures most { steps.new.pages ≤ steps.old.pages + 2 }
     {
-        let shared = match mem::replace(self, Page::Based(0)) {
-            Page::Based(start) => {
+        let shared = match mem::replace(self, Page::Under(0)) {
+            Page::Under(start) => {
                 steps.page();
-                *self = Page::Based(start);
-                return Ok(Page::Based(start));
+                *self = Page::Under(start);
+                return settled.named(base, start);
             }
             Page::Shared(items) => items,
             Page::Owned(items) => {
@@ -122,21 +131,28 @@ impl<T: Copy> Page<T> {
         steps.page();
         let named = Arc::try_clone(&shared);
         *self = Page::Shared(shared);
-        Ok(Page::Shared(named?))
+        Ok(Named::Shared(named?))
     }
 
     // Takes the items out of an owned page, or copies those of another. On `Memory` the page stays.
-    fn take(&mut self, alloc: Global, base: &[T], steps: &mut Steps) -> Result<Vec<T>, Memory>
-        ensures ok { IfOk result (λ items. items.items ≡ items_of base.now self.old) }
-        ensures err { OnErr result (items_of base.now self.new ≡ items_of base.now self.old) }
+    fn take(
+        &mut self,
+        alloc: Global,
+        base: &[T],
+        settled: &Settled<T>,
+        steps: &mut Steps,
+    ) -> Result<Vec<T>, Memory>
+        requires { AreSettled base.now settled.now }
+        ensures ok { IfOk result (λ items. items.items ≡ items_of (under base.now settled.now) self.old) }
+        ensures err { OnErr result (items_of (under base.now settled.now) self.new ≡ items_of (under base.now settled.now) self.old) }
         ensures tics { steps.new.tics ≡ steps.old.tics }
         ensures least { steps.old.pages ≤ steps.new.pages }
-        ensures most { steps.new.pages ≤ steps.old.pages + length (items_of base.now self.old) }
+        ensures most { steps.new.pages ≤ steps.old.pages + length (items_of (under base.now settled.now) self.old) }
     {
-        match mem::replace(self, Page::Based(0)) {
-            Page::Based(start) => {
-                *self = Page::Based(start);
-                copy_of(alloc, part_of(base, start), steps)
+        match mem::replace(self, Page::Under(0)) {
+            Page::Under(start) => {
+                *self = Page::Under(start);
+                settled.copied(alloc, base, start, steps)
             }
             Page::Owned(items) => Ok(items),
             Page::Shared(items) => {
@@ -146,27 +162,4 @@ impl<T: Copy> Page<T> {
             }
         }
     }
-}
-
-// The items of a page over a base that begins at this place.
-fn part_of<T>(base: &[T], start: usize) -> &[T]
-    ensures { result.now ≡ take 32 (drop start base.now) }
-{
-    let rest = &base[start.min(base.len())..];
-    &rest[..rest.len().min(PAGE_LEN)]
-}
-
-// A copy with room for a whole page.
-fn copy_of<T: Copy>(alloc: Global, items: &[T], steps: &mut Steps) -> Result<Vec<T>, Memory>
-    ensures ok { IfOk result (λ copy. copy.items ≡ items.now) }
-    ensures tics { steps.new.tics ≡ steps.old.tics }
-    ensures least { steps.old.pages ≤ steps.new.pages }
-    ensures most { steps.new.pages ≤ steps.old.pages + length items.now }
-{
-    let mut copy = Vec::with_capacity(alloc, PAGE_LEN)?;
-    for item in items {
-        steps.page();
-        copy.push(*item)?;
-    }
-    Ok(copy)
 }
