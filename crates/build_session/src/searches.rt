@@ -32,6 +32,21 @@ pub struct Searched {
     pub turns: Option<u64>,
 }
 
+/// As many sequences as a worker takes at a time.
+const BLOCK: u64 = 256;
+
+/// How many of the workers have something to do in a search of so many sequences: a thread for each block is enough.
+fn busy_workers(count: u32, sequences: u64) -> u32
+    requires { (1 ≤ count) × (count ≤ 64) }
+    ensures { (1 ≤ result) × (result ≤ 64) }
+{
+    let blocks = sequences.div_ceil(BLOCK).max(1);
+    if u64::from(count) <= blocks {
+        return count;
+    }
+    blocks as u32
+}
+
 /// The least number whose sequence meets the targets, played on from the kept world. The kept world keeps its meaning.
 pub fn search<G: Game + Sync, T: Gate + Sync, R: Threads + Sync>(
     alloc: Global,
@@ -57,7 +72,8 @@ where
 {
     match searcher {
         Searcher::Workers(count) => {
-            let first = first_match(alloc, rt, game, kept, space, wants, *count, gate, steps)?;
+            let workers = busy_workers(*count, space.count());
+            let first = first_match(alloc, rt, game, kept, space, wants, workers, gate, steps)?;
             Ok(Searched { first, turns: None })
         }
         Searcher::Hands(order) => {
