@@ -114,10 +114,11 @@ class Session:
 
 
 def report(lumps, tables, demo, script):
-    """The whole report of a session."""
+    """The lines of the report of a session."""
+    session = Session(lumps, tables, demo)
     try:
-        session = Session(lumps, tables, demo)
         session.world_here()
-        return list(session.carry_out(script))
     except Refused as refused:
-        return [f"refused: {refused}"]
+        yield f"refused: {refused}"
+        return
+    yield from session.carry_out(script)
