@@ -1,9 +1,10 @@
 """Draws levels, tables and tics at random, for tools/check_random.
 
-A level is a rectangle that is split again and again, by ways in any direction, into faces. Each face is a subsector, and
-several may be one sector. Free lines that may act and things are strewn over it. The same seed draws the same.
+A level is a rectangle that is split again and again, by ways in any direction, into faces. Each is a subsector, and
+some are one sector together. Free lines that may act and things are strewn over it. The same seed draws the same.
 """
 
+import functools
 import random
 import struct
 from dataclasses import dataclass, field, replace
@@ -17,7 +18,9 @@ EXIT_PLACE = 14
 KEYS = [5, 6, 13, 38, 39, 40]
 TAKEN = [83, 2011, 2012, 2013, 2014, 2015, 2018, 2019, 2022, 2023, 2025]
 OBSTACLES = [2035, 3006, 30, 63, 27]
-TAGS = [0, 1, 2, 3]
+TAGS = [0, 1, 1, 1, 1, 2, 2]
+TICS, LONG = (50, 200), (900, 1300)
+REACH = 70  # of what stands near the player's start
 
 
 @dataclass
@@ -60,30 +63,34 @@ class Theme:
     things: tuple = ()
     thing_count: int = 3
     exits: int = 0  # places to which teleporters lead
-    triggers: int = 8
-    buttons: int = 60  # one tic of so many has a button that halts
+    triggers: int = 9
+    halting: float = 0.0005  # the chance of a tic that a button in it halts
+    idle: float = 0.1  # the chance that the player rests for a while
+    tics: tuple = TICS
     far: bool = False  # at the edge of all coordinates
     wild: bool = False  # sines at random
 
 
-LIGHTS, DAMAGE = (0, 0, 1, 2, 3, 8, 12, 13, 17), (0, 0, 5, 7, 16, 4, 9, 11)
+LIGHTS, DAMAGE = (0, 0, 1, 2, 3, 8, 12, 13, 17), (0, 5, 7, 16, 4, 9, 11)
 ALL_SECTORS = (0,) * 8 + (1, 2, 3, 4, 5, 7, 8, 9, 10, 11, 12, 13, 14, 16, 17)
 ALL_THINGS = (*OBSTACLES, *KEYS, *TAKEN)
+MOVERS = ("door", "lift", "floor")
 THEMES = {
     "walls": Theme(triggers=4),
     "things": Theme(things=ALL_THINGS, thing_count=24),
-    "doors": Theme(("door",), (0, 0, 0, 10, 14), (*KEYS, *OBSTACLES), 8),
+    "doors": Theme(("door",), (0, 0, 0, 10, 14), (*KEYS, *OBSTACLES), 12),
+    "locks": Theme(("lock",), (0,), KEYS, 12),
     "lifts": Theme(("lift",), (0,), OBSTACLES, 6),
     "floors": Theme(("floor",), (0,), OBSTACLES, 6),
+    "waits": Theme(("door", "lift"), (0, 0, 10), KEYS, 6, idle=0.9, tics=LONG),
     "lights": Theme(("light",), LIGHTS, OBSTACLES, 2),
-    "damage": Theme(("door", "floor"), DAMAGE, TAKEN, 12),
-    "teleporters": Theme(("teleport",), (0, 0, 9), (*OBSTACLES, *TAKEN), 5, exits=3, triggers=10),
-    "exits": Theme(("exit", "light", "floor"), (0, 0, 9), ALL_THINGS, 4),
-    "halts": Theme(("halt", "door", "lift"), (0, 0, 0, 0, 6, 15, 99), ALL_THINGS, 4, buttons=12),
-    "wild sines": Theme(("door", "lift", "floor", "light"), (0,), ALL_THINGS, 6, wild=True),
-    "far away": Theme(("door", "lift", "floor", "teleport"), (0,), ALL_THINGS, 6, exits=2, far=True),
-    "all": Theme(("door", "lift", "floor", "light", "teleport", "exit"), ALL_SECTORS, ALL_THINGS, 10, exits=2,
-                 triggers=14),
+    "damage": Theme(("floor",), DAMAGE, TAKEN, 12),
+    "teleporters": Theme(("teleport",), (0, 0, 9), (*OBSTACLES, *TAKEN), 5, exits=5),
+    "exits": Theme(("exit", "light", "floor"), (0, 0, 9, 11), ALL_THINGS, 4, triggers=3),
+    "halts": Theme(("halt", "door", "lift"), (0, 0, 0, 0, 6, 15, 99), ALL_THINGS, 4, halting=0.004, triggers=10),
+    "wild sines": Theme(MOVERS, (0,), ALL_THINGS, 6, wild=True),
+    "far away": Theme((*MOVERS, "teleport"), (0,), ALL_THINGS, 6, exits=2, far=True),
+    "all": Theme((*MOVERS, "light", "teleport", "exit"), ALL_SECTORS, ALL_THINGS, 10, exits=2),
 }
 
 
@@ -162,6 +169,12 @@ class Faces:
         return ends if abs(x1 - x2) + abs(y1 - y2) > 40 else None
 
 
+@functools.cache
+def known_specials():
+    """The numbers by which lines act."""
+    return list(specials().values())
+
+
 def middle(face):
     """The middle of a face."""
     return tuple(sum(place[axis] for place in face) // len(face) for axis in (0, 1))
@@ -173,7 +186,12 @@ class Drawing:
     def __init__(self, theme, seed):
         self.theme, self.rng = THEMES[theme], random.Random(f"{theme} {seed}")
         self.level = BlockedLevel(blocked=self.rng.choice(["all", "near", "leading", "backward"]))
-        self.numbers = [special.number for special in specials().values() if special.kind in self.theme.acting]
+        self.numbers = {how: [] for how in ("walk", "use")}
+        for special in known_specials():
+            how = "walk" if "walk" in special.words or "crossed" in special.words else "use"
+            if special.kind in self.theme.acting or special.key and "lock" in self.theme.acting:
+                self.numbers[how].append(special.number)
+        self.walked = self.rng.choice([0.1, 0.6, 0.9])  # the chance that a line on the way acts
         self.left, self.bottom = self.corner()
         self.width, self.height = self.rng.randint(300, 700), self.rng.randint(300, 600)
         self.faces = Faces(self.rng, self.level, self.left, self.bottom, self.width, self.height)
@@ -187,11 +205,11 @@ class Drawing:
 
     def draw(self):
         """The level."""
-        self.faces.split(0, self.rng.randint(1, 4))
+        self.faces.split(0, self.rng.choice([1, 2, 3, 3, 4]))
         for face in range(len(self.faces.places)):
             self.put_sector(face)
         self.put_edges()
-        for _ in range(self.rng.randint(1, self.theme.triggers)):
+        for _ in range(self.rng.randint(self.theme.triggers // 2, self.theme.triggers)):
             self.put_free_line()
         for face in range(len(self.faces.places)):
             self.put_subsector(face)
@@ -204,15 +222,17 @@ class Drawing:
         if face and rng.random() < 0.15:
             self.sector_of_face[face] = rng.randrange(len(self.level.sectors))
             return
-        floor = 0 if face == 0 else rng.choice([0, 0, 0, 8, 16, 24, 25, -16, -40, 40, rng.randint(-60, 80)])
-        ceiling = floor + (128 if face == 0 else rng.choice([0, 40, 56, 64, 72, 100, 128, rng.randint(56, 160)]))
-        special = 0 if face == 0 and rng.random() < 0.8 else rng.choice(self.theme.sectors)
+        floor = 0 if face == 0 else rng.choice([0, 0, 0, 0, 8, 16, 24, 25, -16, -40, 40, rng.randint(-60, 80)])
+        ceiling = floor + (128 if face == 0 else rng.choice([0, 40, 56, 64, 100, 128, 128, rng.randint(56, 160)]))
+        special = 0 if face == 0 and rng.random() < 0.4 else rng.choice(self.theme.sectors)
         light = rng.choice([0, 96, 128, 160, 255, rng.randint(0, 255)])
         self.sector_of_face[face] = self.level.sector(floor, ceiling, rng.choice(TAGS), special, light)
 
-    def special(self, chance):
-        """The number of a line, with a chance that it has one."""
-        return self.rng.choice(self.numbers) if self.numbers and self.rng.random() < chance else 0
+    def special(self, chance, how):
+        """The number of a line that is walked over or used, with a chance that it has one."""
+        rng = self.rng
+        numbers = self.numbers[how if rng.random() < 0.9 else rng.choice(["walk", "use"])]
+        return rng.choice(numbers) if numbers and rng.random() < chance else 0
 
     def put_edges(self):
         """Puts the lines between faces, and around all."""
@@ -221,38 +241,45 @@ class Drawing:
         for (start, end), face in at.items():
             other, front = at.get((end, start)), self.sector_of_face[face]
             if other is None:
-                self.level.line(start, end, front, special=self.special(0.2), tag=self.rng.choice(TAGS))
+                self.level.line(start, end, front, special=self.special(0.6, "use"), tag=self.rng.choice(TAGS))
             elif face < other:
-                self.put_edge(start, end, front, self.sector_of_face[other])
+                self.put_edge(start, end, front, self.sector_of_face[other], 0.2 if face == 0 else 0.5)
 
-    def put_edge(self, start, end, front, back):
-        """Puts the line between two faces, or a wall in its place; none between faces of one sector, perhaps."""
+    def put_edge(self, start, end, front, back, turned):
+        """Puts the line between two faces, with a chance that it is turned, or a wall in its place. Between faces of one
+        sector there may be none."""
         rng, chance = self.rng, self.rng.random()
         if front == back and chance < 0.7:
             return
-        if rng.random() < 0.5:
+        if rng.random() < turned:
             start, end, front, back = end, start, back, front
-        flags = TWO_SIDED if chance < 0.85 else rng.choice([0, BLOCKING, BLOCKS_MONSTERS, 5, 6])
-        if chance > 0.97:
+        flags = TWO_SIDED if chance < 0.9 else rng.choice([0, BLOCKING, BLOCKS_MONSTERS, 5, 6])
+        if chance > 0.98:
             back, flags = None, rng.choice([0, BLOCKING, TWO_SIDED])
-        self.level.line(start, end, front, back, self.special(0.35), rng.choice(TAGS), flags)
+        special = self.special(0.8, rng.choice([how for how in ("walk", "use") if self.numbers[how]] or ["use"]))
+        self.level.line(start, end, front, back, special, rng.choice(TAGS), flags)
 
     def place(self):
         """A place in the level."""
         return (self.left + self.rng.randrange(self.width), self.bottom + self.rng.randrange(self.height))
 
+    def near_start(self):
+        """A place near the player's start."""
+        x, y = middle(self.faces.places[0])
+        return self.inside((x + self.rng.randint(-REACH, REACH), y + self.rng.randint(-REACH, REACH)))
+
     def put_free_line(self):
-        """Puts a line somewhere, mostly one that only acts, near the player's start perhaps."""
-        rng = self.rng
-        x, y = self.place() if rng.random() < 0.5 else middle(self.faces.places[0])
-        start = x + rng.randint(-90, 90), y + rng.randint(-90, 90)
-        way = rng.choice([(0, 64), (64, 0), (0, -48), (-32, 0), (rng.randint(-90, 90), rng.randint(-90, 90)), (48, 48)])
-        start, end = self.inside(start), self.inside((start[0] + way[0], start[1] + way[1]))
-        sector = rng.randrange(len(self.level.sectors))
-        if rng.random() < 0.8:
-            self.level.line(start, end, sector, sector, self.special(0.8), rng.choice(TAGS), TWO_SIDED)
+        """Puts a line somewhere, mostly one that only acts, and mostly near the player's start."""
+        rng, near = self.rng, self.rng.random() < 0.7
+        start = self.near_start() if near else self.place()
+        any_way = rng.randint(-160, 160), rng.randint(-160, 160)
+        way = rng.choice([(0, 120), (160, 0), (0, -120), (-90, 0), (96, 96), any_way, any_way, any_way])
+        end = self.inside((start[0] + way[0], start[1] + way[1]))
+        sector = 0 if near else rng.randrange(len(self.level.sectors))
+        if near or rng.random() < 0.8:
+            self.level.line(start, end, sector, sector, self.special(self.walked, "walk"), rng.choice(TAGS), TWO_SIDED)
         else:
-            self.level.line(start, end, sector, rng.choice([None, sector]), self.special(0.4), rng.choice(TAGS),
+            self.level.line(start, end, sector, rng.choice([None, sector]), self.special(0.6, "use"), rng.choice(TAGS),
                             rng.choice([0, 1, 4, 6]))
 
     def inside(self, place):
@@ -273,15 +300,17 @@ class Drawing:
     def put_things(self):
         """Puts the player in the first face, and what else is there."""
         rng = self.rng
-        start = middle(self.faces.places[0])
-        self.level.thing(1, *start, rng.choice([0, 45, 90, 180, 225, 270, rng.randint(-400, 400)]))
+        angle = rng.choice([0, 45, 90, 180, 225, 270, rng.randint(-400, 400)])
+        self.level.thing(1, *middle(self.faces.places[0]), angle)
+        if "lock" in self.theme.acting:
+            self.level.thing(rng.choice(KEYS), *middle(self.faces.places[0]))
         for _ in range(rng.randint(0, self.theme.thing_count) if self.theme.things else 0):
-            near = start[0] + rng.randint(-80, 80), start[1] + rng.randint(-80, 80)
-            place = self.place() if rng.random() < 0.7 else self.inside(near)
-            options = rng.choice([7, 7, 7, 1, 2, 4, 23])
-            self.level.thing(rng.choice(self.theme.things), *place, rng.randrange(360), options)
+            number, near = rng.choice(self.theme.things), rng.random() < 0.5
+            place = self.near_start() if near and (number not in OBSTACLES or rng.random() < 0.1) else self.place()
+            self.level.thing(number, *place, rng.randrange(360), rng.choice([7, 7, 7, 1, 2, 4, 23]))
         for _ in range(self.theme.exits):
-            self.level.thing(EXIT_PLACE, *self.place(), rng.randrange(0, 360, 45))
+            face = rng.choice(self.faces.places)
+            self.level.thing(EXIT_PLACE, *middle(face), rng.randrange(0, 360, 45))
 
 
 def drawn_kinds(rng):
@@ -303,18 +332,24 @@ def drawn_tables(rng, wild):
     return made[:8] + struct.pack("<10240i", *sines) + made[8 + 4 * len(sines) :]
 
 
-def drawn_tics(rng, long_turns, buttons):
-    """What is pressed: runs, strafes, turns and uses, a few tics each."""
-    tics, count = [], rng.randint(50, 200)
-    scale = 256 if long_turns else 1
+def drawn_turn(rng, long_turns):
+    """A turn of 256ths of a circle, or of 65,536ths."""
+    turn = rng.choice([0, 0, rng.randint(-3, 3), rng.randint(-12, 12), rng.randint(-64, 64)])
+    return turn * 256 + rng.randrange(256) if long_turns else turn
+
+
+def drawn_tics(rng, theme, long_turns):
+    """What is pressed: runs, strafes, turns, rests and uses, a few tics each."""
+    tics, count = [], rng.randint(*theme.tics)
     while len(tics) < count:
-        forward = rng.choice([50, 50, 50, 25, -50, 0, rng.randint(-127, 127)])
-        side = rng.choice([0, 0, 40, -40, rng.randint(-128, 127)])
-        turn = rng.choice([0, 0, 0, rng.randint(-6, 6), rng.randint(-60, 60)]) * scale
-        turn += rng.randrange(scale) if rng.random() < 0.5 else 0
-        for _ in range(rng.choice([1, 2, 5, 10, 20, 35])):
-            halting = rng.choice([1, 128]) if rng.random() < 1 / (buttons * 30) else 0
-            tics.append((forward, side, turn, rng.choice([0, 0, 0, 2, 4]) | halting))
+        rests = len(tics) > 40 and rng.random() < theme.idle
+        forward = 0 if rests else rng.choice([50, 50, 25, 25, 10, -25, 0, rng.randint(-127, 127)])
+        side = 0 if rests else rng.choice([0, 0, 24, -24, rng.randint(-128, 127)])
+        turn = drawn_turn(rng, long_turns)
+        for _ in range(rng.choice([1, 2, 5, 8, 12, 35])):
+            halting = rng.choice([1, 128]) if rng.random() < theme.halting else 0
+            use = 0 if rests and rng.random() < 0.9 else rng.choice([0, 0, 2, 4])
+            tics.append((forward, side, turn, use | halting))
     return tics[:count]
 
 
@@ -323,5 +358,6 @@ def drawn(theme, seed):
     drawing = Drawing(theme, seed)
     level, rng = drawing.draw(), drawing.rng
     long_turns = rng.random() < 0.25
-    return Drawn(theme, seed, rng.choice(["MAP01", "E1M1"]), level, drawn_tables(rng, drawing.theme.wild),
-                 rng.randrange(5), long_turns, drawn_tics(rng, long_turns, drawing.theme.buttons))
+    label, made = rng.choice(["MAP01", "E1M1"]), drawn_tables(rng, drawing.theme.wild)
+    tics = drawn_tics(rng, drawing.theme, long_turns)
+    return Drawn(theme, seed, label, level, made, rng.randrange(5), long_turns, tics)
