@@ -19,7 +19,7 @@ KEYS = [5, 6, 13, 38, 39, 40]
 TAKEN = [83, 2011, 2012, 2013, 2014, 2015, 2018, 2019, 2022, 2023, 2025]
 OBSTACLES = [2035, 3006, 30, 63, 27]
 TAGS = [0, 1, 1, 1, 1, 2, 2]
-TICS, LONG = (50, 200), (900, 1300)
+TICS, LONG = (50, 200), (400, 1300)
 REACH = 70  # of what stands near the player's start
 
 
@@ -186,11 +186,12 @@ class Drawing:
     def __init__(self, theme, seed):
         self.theme, self.rng = THEMES[theme], random.Random(f"{theme} {seed}")
         self.level = BlockedLevel(blocked=self.rng.choice(["all", "near", "leading", "backward"]))
-        self.numbers = {how: [] for how in ("walk", "use")}
+        self.numbers = {"walk": {}, "use": {}}  # of each, by kinds, which are as likely
         for special in known_specials():
             how = "walk" if "walk" in special.words or "crossed" in special.words else "use"
             if special.kind in self.theme.acting or special.key and "lock" in self.theme.acting:
-                self.numbers[how].append(special.number)
+                kind = "hand" if "by hand" in special.words else special.kind
+                self.numbers[how].setdefault(kind, []).append(special.number)
         self.walked = self.rng.choice([0.1, 0.6, 0.9])  # the chance that a line on the way acts
         self.left, self.bottom = self.corner()
         self.width, self.height = self.rng.randint(300, 700), self.rng.randint(300, 600)
@@ -232,7 +233,11 @@ class Drawing:
         """The number of a line that is walked over or used, with a chance that it has one."""
         rng = self.rng
         numbers = self.numbers[how if rng.random() < 0.9 else rng.choice(["walk", "use"])]
-        return rng.choice(numbers) if numbers and rng.random() < chance else 0
+        return rng.choice(rng.choice(list(numbers.values()))) if numbers and rng.random() < chance else 0
+
+    def tag(self):
+        """The tag of a line, mostly that of a sector."""
+        return self.rng.choice(TAGS if self.rng.random() < 0.1 else [sector[6] for sector in self.level.sectors])
 
     def put_edges(self):
         """Puts the lines between faces, and around all."""
@@ -241,13 +246,13 @@ class Drawing:
         for (start, end), face in at.items():
             other, front = at.get((end, start)), self.sector_of_face[face]
             if other is None:
-                self.level.line(start, end, front, special=self.special(0.6, "use"), tag=self.rng.choice(TAGS))
+                self.level.line(start, end, front, special=self.special(0.6, "use"), tag=self.tag())
             elif face < other:
                 self.put_edge(start, end, front, self.sector_of_face[other], 0.2 if face == 0 else 0.5)
 
     def put_edge(self, start, end, front, back, turned):
-        """Puts the line between two faces, with a chance that it is turned, or a wall in its place. Between faces of one
-        sector there may be none."""
+        """Puts the line between two faces, with a chance that it is turned, or a wall in its place. Between faces of
+        one sector there may be none."""
         rng, chance = self.rng, self.rng.random()
         if front == back and chance < 0.7:
             return
@@ -257,7 +262,7 @@ class Drawing:
         if chance > 0.98:
             back, flags = None, rng.choice([0, BLOCKING, TWO_SIDED])
         special = self.special(0.8, rng.choice([how for how in ("walk", "use") if self.numbers[how]] or ["use"]))
-        self.level.line(start, end, front, back, special, rng.choice(TAGS), flags)
+        self.level.line(start, end, front, back, special, self.tag(), flags)
 
     def place(self):
         """A place in the level."""
@@ -277,9 +282,9 @@ class Drawing:
         end = self.inside((start[0] + way[0], start[1] + way[1]))
         sector = 0 if near else rng.randrange(len(self.level.sectors))
         if near or rng.random() < 0.8:
-            self.level.line(start, end, sector, sector, self.special(self.walked, "walk"), rng.choice(TAGS), TWO_SIDED)
+            self.level.line(start, end, sector, sector, self.special(self.walked, "walk"), self.tag(), TWO_SIDED)
         else:
-            self.level.line(start, end, sector, rng.choice([None, sector]), self.special(0.6, "use"), rng.choice(TAGS),
+            self.level.line(start, end, sector, rng.choice([None, sector]), self.special(0.6, "use"), self.tag(),
                             rng.choice([0, 1, 4, 6]))
 
     def inside(self, place):
@@ -303,7 +308,8 @@ class Drawing:
         angle = rng.choice([0, 45, 90, 180, 225, 270, rng.randint(-400, 400)])
         self.level.thing(1, *middle(self.faces.places[0]), angle)
         if "lock" in self.theme.acting:
-            self.level.thing(rng.choice(KEYS), *middle(self.faces.places[0]))
+            for key in rng.sample(KEYS, 4):
+                self.level.thing(key, *middle(self.faces.places[0]))
         for _ in range(rng.randint(0, self.theme.thing_count) if self.theme.things else 0):
             number, near = rng.choice(self.theme.things), rng.random() < 0.5
             place = self.near_start() if near and (number not in OBSTACLES or rng.random() < 0.1) else self.place()
