@@ -1,7 +1,7 @@
 """Draws levels, tables and tics at random, for tools/check_random.
 
-A level is a rectangle that is split again and again, by ways in any direction, into faces. Each is a subsector, and
-some are one sector together. Free lines that may act and things are strewn over it. The same seed draws the same.
+A level is a rectangle that is split again and again, by ways in any direction, into faces. Each is a subsector; some are
+one sector together. Free lines that may act and things are strewn over it. The same seed draws the same.
 """
 
 import functools
