@@ -1,7 +1,7 @@
 """Draws levels, tables and tics at random, for tools/check_random.
 
-A level is a rectangle that is split again and again, by ways in any direction, into faces. Each is a subsector; some are
-one sector together. Free lines that may act and things are strewn over it. The same seed draws the same.
+A level is a rectangle that is split again and again, by ways in any direction, into faces. Each is a subsector; some
+are one sector together. Free lines that may act and things are strewn over it. The same seed draws the same.
 """
 
 import functools
@@ -62,32 +62,37 @@ class Theme:
     sectors: tuple = (0,)
     things: tuple = ()
     thing_count: int = 3
+    floors: tuple = (0, 0, 0, 0, 8, 16, 24, 25, -16, -40, 40)
     exits: int = 0  # places to which teleporters lead
     triggers: int = 9
     halting: float = 0.0005  # the chance of a tic that a button in it halts
     idle: float = 0.1  # the chance that the player rests for a while
     tics: tuple = TICS
+    corner: bool = False  # the player runs into the corner of a square
     far: bool = False  # at the edge of all coordinates
     wild: bool = False  # sines at random
 
 
-LIGHTS, DAMAGE = (0, 0, 1, 2, 3, 8, 12, 13, 17), (0, 5, 7, 16, 4, 9, 11)
+LIGHTS, DAMAGE = (0, 1, 1, 1, 2, 3, 8, 12, 13, 17), (0, 5, 7, 16, 4, 4, 4, 9, 11)
 ALL_SECTORS = (0,) * 8 + (1, 2, 3, 4, 5, 7, 8, 9, 10, 11, 12, 13, 14, 16, 17)
 ALL_THINGS = (*OBSTACLES, *KEYS, *TAKEN)
 MOVERS = ("door", "lift", "floor")
 THEMES = {
     "walls": Theme(triggers=4),
-    "things": Theme(things=ALL_THINGS, thing_count=24),
+    "corners": Theme(triggers=1, corner=True),
+    "things": Theme(things=ALL_THINGS, thing_count=30, floors=(0, 0, 55, 56, 56, 57, -8, -9, 24)),
     "doors": Theme(("door",), (0, 0, 0, 10, 14), (*KEYS, *OBSTACLES), 12),
     "locks": Theme(("lock",), (0,), KEYS, 12),
     "lifts": Theme(("lift",), (0,), OBSTACLES, 6),
     "floors": Theme(("floor",), (0,), OBSTACLES, 6),
+    "movers": Theme(MOVERS, (0,), KEYS, 4, triggers=14),
     "waits": Theme(("door", "lift"), (0, 0, 10), KEYS, 6, idle=0.9, tics=LONG),
+    "crowds": Theme(("light",), (0, 9), triggers=60),
     "lights": Theme(("light",), LIGHTS, OBSTACLES, 2),
     "damage": Theme(("floor",), DAMAGE, TAKEN, 12),
     "teleporters": Theme(("teleport",), (0, 0, 9), (*OBSTACLES, *TAKEN), 5, exits=5),
     "exits": Theme(("exit", "light", "floor"), (0, 0, 9, 11), ALL_THINGS, 4, triggers=3),
-    "halts": Theme(("halt", "door", "lift"), (0, 0, 0, 0, 6, 15, 99), ALL_THINGS, 4, halting=0.004, triggers=10),
+    "halts": Theme(("halt", "door", "lift"), (0, 0, 0, 0, 6, 15, 99), ALL_THINGS, 4, halting=0.002, triggers=40),
     "wild sines": Theme(MOVERS, (0,), ALL_THINGS, 6, wild=True),
     "far away": Theme((*MOVERS, "teleport"), (0,), ALL_THINGS, 6, exits=2, far=True),
     "all": Theme((*MOVERS, "light", "teleport", "exit"), ALL_SECTORS, ALL_THINGS, 10, exits=2),
@@ -195,6 +200,8 @@ class Drawing:
         self.walked = self.rng.choice([0.1, 0.6, 0.9])  # the chance that a line on the way acts
         self.left, self.bottom = self.corner()
         self.width, self.height = self.rng.randint(300, 700), self.rng.randint(300, 600)
+        if self.theme.corner:
+            self.width = self.height = self.height // 2 * 2
         self.faces = Faces(self.rng, self.level, self.left, self.bottom, self.width, self.height)
         self.sector_of_face = {}
 
@@ -206,7 +213,7 @@ class Drawing:
 
     def draw(self):
         """The level."""
-        self.faces.split(0, self.rng.choice([1, 2, 3, 3, 4]))
+        self.faces.split(0, 0 if self.theme.corner else self.rng.choice([1, 2, 3, 3, 4]))
         for face in range(len(self.faces.places)):
             self.put_sector(face)
         self.put_edges()
@@ -223,7 +230,7 @@ class Drawing:
         if face and rng.random() < 0.15:
             self.sector_of_face[face] = rng.randrange(len(self.level.sectors))
             return
-        floor = 0 if face == 0 else rng.choice([0, 0, 0, 0, 8, 16, 24, 25, -16, -40, 40, rng.randint(-60, 80)])
+        floor = 0 if face == 0 else rng.choice([*self.theme.floors, rng.randint(-60, 80)])
         ceiling = floor + (128 if face == 0 else rng.choice([0, 40, 56, 64, 100, 128, 128, rng.randint(56, 160)]))
         special = 0 if face == 0 and rng.random() < 0.4 else rng.choice(self.theme.sectors)
         light = rng.choice([0, 96, 128, 160, 255, rng.randint(0, 255)])
@@ -306,6 +313,8 @@ class Drawing:
         """Puts the player in the first face, and what else is there."""
         rng = self.rng
         angle = rng.choice([0, 45, 90, 180, 225, 270, rng.randint(-400, 400)])
+        if self.theme.corner:
+            angle = rng.choice([45, 135, 225, 315])
         self.level.thing(1, *middle(self.faces.places[0]), angle)
         if "lock" in self.theme.acting:
             for key in rng.sample(KEYS, 4):
@@ -313,6 +322,8 @@ class Drawing:
         for _ in range(rng.randint(0, self.theme.thing_count) if self.theme.things else 0):
             number, near = rng.choice(self.theme.things), rng.random() < 0.5
             place = self.near_start() if near and (number not in OBSTACLES or rng.random() < 0.1) else self.place()
+            if number in OBSTACLES and rng.random() < 0.3:
+                place = self.level.things[-1][:2] if len(self.level.things) > 1 else place
             self.level.thing(number, *place, rng.randrange(360), rng.choice([7, 7, 7, 1, 2, 4, 23]))
         for _ in range(self.theme.exits):
             face = rng.choice(self.faces.places)
@@ -346,7 +357,7 @@ def drawn_turn(rng, long_turns):
 
 def drawn_tics(rng, theme, long_turns):
     """What is pressed: runs, strafes, turns, rests and uses, a few tics each."""
-    tics, count = [], rng.randint(*theme.tics)
+    tics, count = [(50, 0, 0, 0)] * 40 if theme.corner else [], rng.randint(*theme.tics)
     while len(tics) < count:
         rests = len(tics) > 40 and rng.random() < theme.idle
         forward = 0 if rests else rng.choice([50, 50, 25, 25, 10, -25, 0, rng.randint(-127, 127)])
