@@ -3,7 +3,7 @@
 from dataclasses import dataclass
 
 from .body import Hurt
-from .fixed import UNIT, fixed_mul, wrap32
+from .fixed import fixed_mul, wrap32
 from .geometry import line_side
 from .lines import use_line
 from .moves import xy_move, z_move
