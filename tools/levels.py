@@ -1,5 +1,6 @@
 """Writes small WADs and play tables, in the formats of docs/FORMATS.md, for the tools beside it."""
 
+import functools
 import itertools
 import math
 import struct
@@ -99,15 +100,20 @@ class Kind:
     first: int = 0
 
 
-def tables(kinds, random=bytes(range(256))):
-    """A file of play tables. Entry i of the sines is that of i / 8192 of a turn, without the half that an engine's
-    have, so that who looks east walks east to the bit; the random number at index i is i."""
+@functools.cache
+def angles():
+    """The sines and the arc tangents of play tables. Entry i of the sines is that of i / 8192 of a turn, without the
+    half that an engine's have, so that who looks east walks east to the bit."""
     sines = [round(math.sin(i / 8192 * math.tau) * 65536) for i in range(10240)]
     tangents = [round(math.atan(i / 2048) / math.tau * 2**32) for i in range(2049)]
+    return struct.pack("<10240i2049I", *sines, *tangents)
+
+
+def tables(kinds, random=bytes(range(256))):
+    """A file of play tables; the random number at index i is i."""
     packed = [struct.pack("<HHiii", kind.number, kind.flags, kind.radius << 16, kind.height << 16, kind.first)
               for kind in kinds]
-    head = struct.pack("<4sI10240i2049I", b"PTAB", len(kinds), *sines, *tangents)
-    return head + random + b"".join(packed)
+    return struct.pack("<4sI", b"PTAB", len(kinds)) + angles() + random + b"".join(packed)
 
 
 def demo(tics=(), skill=3, episode=1, number=1):
