@@ -11,6 +11,8 @@ mod maps;
 #[cfg(test)]
 mod numbers;
 #[cfg(test)]
+mod rows;
+#[cfg(test)]
 mod sectors;
 #[cfg(test)]
 mod sides;

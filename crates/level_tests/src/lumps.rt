@@ -1,25 +1,30 @@
 //! Small files, made by hand.
 
-use std::alloc::Global;
+use std::alloc::{AllocError, Global};
 use std::test::Fail;
 use wad_lumps::{Wad, WadFault};
 
+/// An entry of this name, whose lump is empty.
+fn push_entry(bytes: &mut Vec<u8>, name: &str) -> Result<(), AllocError> {
+    bytes.extend_from_slice(&[0; 8])?;
+    for i in 0..8 {
+        bytes.push(name.as_bytes().get(i).copied().unwrap_or(0))?;
+    }
+    Ok(())
+}
+
 /// A file whose directory stands behind its head and has entries of these names, which spaces part,
 /// each with an empty lump.
-fn file(alloc: Global, names: &str) -> Result<Vec<u8>, Fail> {
-    let mut entries = Vec::new(alloc);
-    let mut count = 0u32;
+fn file(alloc: Global, names: &str) -> Result<Vec<u8>, AllocError> {
+    let mut bytes = Vec::from_slice(alloc, b"PWAD\0\0\0\0\x0c\0\0\0")?;
+    let mut count = 0u8;
     for name in names.split(' ') {
-        entries.extend_from_slice(&[0; 8])?;
-        for i in 0..8 {
-            entries.push(name.as_bytes().get(i).copied().unwrap_or(0))?;
-        }
+        push_entry(&mut bytes, name)?;
         count = count.wrapping_add(1);
     }
-    let mut bytes = Vec::from_slice(alloc, b"PWAD")?;
-    bytes.extend_from_slice(&count.to_le_bytes())?;
-    bytes.extend_from_slice(&12u32.to_le_bytes())?;
-    bytes.extend_from_slice(&entries)?;
+    if let Some(place) = bytes.get_mut(4) {
+        *place = count;
+    }
     Ok(bytes)
 }
 
@@ -90,7 +95,7 @@ fn labels(rt: HostRuntime) -> Result<(), Fail> {
 }
 
 /// A file with the label of the first map and its ten lumps, and another number at a place.
-fn changed(alloc: Global, at: usize, to: i32) -> Result<Vec<u8>, Fail> {
+fn changed(alloc: Global, at: usize, to: i32) -> Result<Vec<u8>, AllocError> {
     let mut bytes = file(alloc, "E1M1 1 2 3 4 5 6 7 8 9 10")?;
     for (i, byte) in to.to_le_bytes().iter().enumerate() {
         if let Some(place) = bytes.get_mut(at.wrapping_add(i)) {
@@ -131,31 +136,5 @@ fn numbers(rt: HostRuntime) -> Result<(), Fail> {
         let bytes = changed(rt.alloc(), at, to)?;
         assert_eq!(rt; found(rt.alloc(), bytes, 1, 1), want, "{to} at {at}");
     }
-    Ok(())
-}
-
-#[test]
-fn cut_files(rt: HostRuntime) -> Result<(), Fail> {
-    for kept in 0..189 {
-        let mut bytes = file(rt.alloc(), "E1M1 1 2 3 4 5 6 7 8 9 10")?;
-        bytes.truncate(kept);
-        let want = match kept {
-            0..12 => Err(WadFault::WadHead),
-            12..188 => Err(WadFault::WadDir),
-            _ => Ok((0, true, false)),
-        };
-        assert_eq!(rt; found(rt.alloc(), bytes, 1, 1), want, "{kept} bytes");
-    }
-    Ok(())
-}
-
-#[test]
-fn told(rt: HostRuntime) -> Result<(), Fail> {
-    let wad = Wad::read(changed(rt.alloc(), 28, 100)?).map_err(|_| "the file is sound")?;
-    assert_eq!(rt; wad.bytes().len(), 188);
-    let found = wad.map(rt.alloc(), 1, 1).map_err(|_| "the map is there")?;
-    assert_eq!(rt; found.spans.len(), 10);
-    assert_eq!(rt; found.spans[0], (100, 0));
-    assert_eq!(rt; found.spans[9], (0, 0));
     Ok(())
 }

@@ -1,10 +1,10 @@
-//! Sides, boxes and intercepts that were worked out apart from the program, and that threads may share a level.
+//! Sides, boxes and intercepts that were worked out apart from the program.
+use crate::rows::{behind, expect, int, number, numbers};
 use map_geometry::{
-    Area, DivLine, Level, Line, Node, Slope, box_side, divline_side, intercept, line_side,
-    node_side,
+    Area, DivLine, Line, Node, Slope, box_side, divline_side, intercept, line_side, node_side,
 };
 use std::process::Abort;
-use std::thread::{Threads, join};
+use std::test::Fail;
 
 const U: i32 = 65536;
 
@@ -15,8 +15,21 @@ const NO_AREA: Area = Area {
     right: 0,
 };
 
+/// The slope of a way.
+fn slope_of(dx: i32, dy: i32) -> Slope {
+    if dx == 0 {
+        Slope::Vertical
+    } else if dy == 0 {
+        Slope::Horizontal
+    } else if (dx > 0) == (dy > 0) {
+        Slope::Positive
+    } else {
+        Slope::Negative
+    }
+}
+
 /// A line from (16, -8) along a way in map units.
-fn line(dx: i8, dy: i8, slope: Slope) -> Line {
+fn line(dx: i32, dy: i32) -> Line {
     Line {
         v1: 0,
         v2: 1,
@@ -27,10 +40,10 @@ fn line(dx: i8, dy: i8, slope: Slope) -> Line {
         tag: 0,
         x: 16 * U,
         y: -8 * U,
-        dx: i32::from(dx) * U,
-        dy: i32::from(dy) * U,
+        dx: dx.wrapping_mul(U),
+        dy: dy.wrapping_mul(U),
         area: NO_AREA,
-        slope,
+        slope: slope_of(dx, dy),
         front: 0,
         back: None,
     }
@@ -55,138 +68,91 @@ const PLACES: [(i32, i32); 15] = [
     (i32::MIN, i32::MIN),
 ];
 
+#[derive(Clone, Copy)]
+enum By {
+    Line,
+    Node,
+    Trace,
+}
+
+/// The side of a place by a line, by a node's line, or by a trace.
+fn side_by(by: By, of: &Line, x: i32, y: i32) -> u32 {
+    match by {
+        By::Line => line_side(of, x, y),
+        By::Node => {
+            let node = Node {
+                x: of.x,
+                y: of.y,
+                dx: of.dx,
+                dy: of.dy,
+                child_0: 0,
+                child_1: 0,
+            };
+            node_side(&node, x, y)
+        }
+        By::Trace => {
+            let trace = DivLine {
+                x: of.x,
+                y: of.y,
+                dx: of.dx,
+                dy: of.dy,
+            };
+            divline_side(&trace, x, y)
+        }
+    }
+}
+
 /// A side as the tables have it.
-fn side_of(digit: u8) -> Option<u32> {
-    match digit {
-        b'0' => Some(0),
-        b'1' => Some(1),
-        _ => None,
+fn digit(side: Option<u32>) -> u8 {
+    match side {
+        Some(0) => b'0',
+        Some(1) => b'1',
+        _ => b'-',
     }
 }
 
-fn line_sides(rt: &impl Abort, line: &Line, sides: &[u8]) {
-    for (&(x, y), &side) in PLACES.iter().zip(sides) {
-        assert_eq!(rt;
-            Some(line_side(line, x, y)),
-            side_of(side),
-            "{line:?} at ({x}, {y})"
-        );
+/// Whether the places have these sides.
+fn places_agree(by: By, of: &Line, places: &[(i32, i32)], sides: &[u8]) -> bool {
+    for (i, (x, y)) in places.iter().enumerate() {
+        if sides.get(i).copied() != Some(digit(Some(side_by(by, of, *x, *y)))) {
+            return false;
+        }
+    }
+    true
+}
+
+/// A way, and the side of each place: by a line, by a node's line, and by a trace.
+const WAYS: &str = "\
+0 64 110110010010101 110110010010101 110110010010101
+0 -64 001001101101010 001001101101010 001001101101010
+64 0 100101100010100 100101100010100 100101100010100
+-64 0 011010011101011 011010011101011 011010011101011
+64 64 110111010010000 110111010010000 110111010010000
+64 -64 011101101100000 011101101100000 011101101100000
+-64 64 110010011011111 100010011011111 100010011011111
+-64 -64 011011111101111 011011111101111 011011111101111
+100 30 110101100010000 110101100010000 110101100010000
+0 0 000000000000000 000000000000000 000000000000000";
+
+/// Asserts what a row of ways says.
+fn expect_sides(rt: &impl Abort, row: &str) {
+    let mut words = row.split_whitespace();
+    let (dx, dy) = (next_int(words.next()), next_int(words.next()));
+    let line = line(dx, dy);
+    for by in [By::Line, By::Node, By::Trace] {
+        let sides = words.next().unwrap_or("").as_bytes();
+        assert!(rt; places_agree(by, &line, &PLACES, sides), "{row}");
     }
 }
 
-fn node_sides(rt: &impl Abort, node: &Node, sides: &[u8]) {
-    for (&(x, y), &side) in PLACES.iter().zip(sides) {
-        assert_eq!(rt;
-            Some(node_side(node, x, y)),
-            side_of(side),
-            "{node:?} at ({x}, {y})"
-        );
-    }
+fn next_int(word: Option<&str>) -> i32 {
+    i32::try_from(number(word.unwrap_or(""))).unwrap_or(0)
 }
 
-fn trace_sides(rt: &impl Abort, trace: &DivLine, sides: &[u8]) {
-    for (&(x, y), &side) in PLACES.iter().zip(sides) {
-        assert_eq!(rt;
-            Some(divline_side(trace, x, y)),
-            side_of(side),
-            "{trace:?} at ({x}, {y})"
-        );
-    }
-}
-
-/// For each way the side of each place: of a line, of a node's line, and of a trace.
 #[test]
 fn sides_of_places(rt: HostRuntime) {
-    let ways: [(i8, i8, &[u8], &[u8], &[u8]); 10] = [
-        (
-            0,
-            64,
-            b"110110010010101",
-            b"110110010010101",
-            b"110110010010101",
-        ),
-        (
-            0,
-            -64,
-            b"001001101101010",
-            b"001001101101010",
-            b"001001101101010",
-        ),
-        (
-            64,
-            0,
-            b"100101100010100",
-            b"100101100010100",
-            b"100101100010100",
-        ),
-        (
-            -64,
-            0,
-            b"011010011101011",
-            b"011010011101011",
-            b"011010011101011",
-        ),
-        (
-            64,
-            64,
-            b"110111010010000",
-            b"110111010010000",
-            b"110111010010000",
-        ),
-        (
-            64,
-            -64,
-            b"011101101100000",
-            b"011101101100000",
-            b"011101101100000",
-        ),
-        (
-            -64,
-            64,
-            b"110010011011111",
-            b"100010011011111",
-            b"100010011011111",
-        ),
-        (
-            -64,
-            -64,
-            b"011011111101111",
-            b"011011111101111",
-            b"011011111101111",
-        ),
-        (
-            100,
-            30,
-            b"110101100010000",
-            b"110101100010000",
-            b"110101100010000",
-        ),
-        (
-            0,
-            0,
-            b"000000000000000",
-            b"000000000000000",
-            b"000000000000000",
-        ),
-    ];
-    for (dx, dy, by_line, by_node, by_trace) in ways {
-        let line = line(dx, dy, Slope::Vertical);
-        let Line { x, y, dx, dy, .. } = line;
-        line_sides(&rt, &line, by_line);
-        let (child_0, child_1) = (0, 0);
-        node_sides(
-            &rt,
-            &Node {
-                x,
-                y,
-                dx,
-                dy,
-                child_0,
-                child_1,
-            },
-            by_node,
-        );
-        trace_sides(&rt, &DivLine { x, y, dx, dy }, by_trace);
+    for row in WAYS.lines() {
+        expect_sides(&rt, row);
     }
 }
 
@@ -202,77 +168,76 @@ const BOXES: [(i8, i8, i8, i8); 8] = [
     (40, -8, -30, 16),
 ];
 
-fn box_sides(rt: &impl Abort, line: &Line, sides: &[u8]) {
-    for (&(top, bottom, left, right), &side) in BOXES.iter().zip(sides) {
+/// Whether the boxes have these sides.
+fn boxes_agree(of: &Line, boxes: &[(i8, i8, i8, i8)], sides: &[u8]) -> bool {
+    for (i, (top, bottom, left, right)) in boxes.iter().enumerate() {
         let area = Area {
-            top: i32::from(top) * U,
-            bottom: i32::from(bottom) * U,
-            left: i32::from(left) * U,
-            right: i32::from(right) * U,
+            top: i32::from(*top) * U,
+            bottom: i32::from(*bottom) * U,
+            left: i32::from(*left) * U,
+            right: i32::from(*right) * U,
         };
-        assert_eq!(rt;
-            box_side(line, &area),
-            side_of(side),
-            "{line:?} and {area:?}"
-        );
+        if sides.get(i).copied() != Some(digit(box_side(of, &area))) {
+            return false;
+        }
     }
+    true
 }
 
-/// For each way the side of each box, or none.
+/// A way, and the side of each box, or none.
+const BOX_WAYS: &str = "\
+0 64 11-1000-
+0 -64 00-0111-
+64 0 01-100--
+-64 0 10-011--
+64 64 -1-101-1
+64 -64 01---11-
+-64 64 10---1--
+-64 -64 -0-011--
+100 30 01-101-1";
+
 #[test]
 fn sides_of_boxes(rt: HostRuntime) {
-    let ways: [(i8, i8, Slope, &[u8]); 9] = [
-        (0, 64, Slope::Vertical, b"11-1000-"),
-        (0, -64, Slope::Vertical, b"00-0111-"),
-        (64, 0, Slope::Horizontal, b"01-100--"),
-        (-64, 0, Slope::Horizontal, b"10-011--"),
-        (64, 64, Slope::Positive, b"-1-101-1"),
-        (64, -64, Slope::Negative, b"01---11-"),
-        (-64, 64, Slope::Negative, b"10---1--"),
-        (-64, -64, Slope::Positive, b"-0-011--"),
-        (100, 30, Slope::Positive, b"01-101-1"),
-    ];
-    for (dx, dy, slope, sides) in ways {
-        box_sides(&rt, &line(dx, dy, slope), sides);
+    for row in BOX_WAYS.lines() {
+        let mut words = row.split_whitespace();
+        let line = line(next_int(words.next()), next_int(words.next()));
+        let sides = words.next().unwrap_or("").as_bytes();
+        assert!(rt; boxes_agree(&line, &BOXES, sides), "{row}");
     }
 }
 
-/// A way in map units.
-fn way((x, y, dx, dy): (i16, i16, i16, i16)) -> DivLine {
+/// A trace and a line, each by its place and its way in map units, and how far along the trace they meet.
+const MEETINGS: &str = "\
+0 0 100 0 50 -50 0 100 32768
+0 0 100 0 50 50 0 -100 32768
+0 0 100 0 150 -50 0 100 98304
+0 0 100 0 -50 -50 0 100 -32768
+0 0 100 0 0 10 100 0 0
+0 0 100 100 100 0 -100 100 32768
+0 0 -100 0 -25 -5 0 10 16384
+10 20 0 -200 0 -80 64 0 32768
+0 0 3 7 1 1 5 -2 11189
+0 0 0 0 1 1 1 1 0
+-1000 -1000 2000 2000 0 1000 1000 -1000 49152
+0 0 30000 30000 20000 0 0 30000 43690
+1 1 599 -1 512 512 0 -1024 55908";
+
+/// The way that begins at this place of a row.
+fn way(row: &[i64], place: usize) -> DivLine {
     DivLine {
-        x: i32::from(x) * U,
-        y: i32::from(y) * U,
-        dx: i32::from(dx) * U,
-        dy: i32::from(dy) * U,
+        x: int(row, place).wrapping_mul(U),
+        y: int(row, place.wrapping_add(1)).wrapping_mul(U),
+        dx: int(row, place.wrapping_add(2)).wrapping_mul(U),
+        dy: int(row, place.wrapping_add(3)).wrapping_mul(U),
     }
 }
 
 #[test]
-fn intercepts(rt: HostRuntime) {
-    for (trace, line, want) in [
-        ((0, 0, 100, 0), (50, -50, 0, 100), 32768),
-        ((0, 0, 100, 0), (50, 50, 0, -100), 32768),
-        ((0, 0, 100, 0), (150, -50, 0, 100), 98304),
-        ((0, 0, 100, 0), (-50, -50, 0, 100), -32768),
-        ((0, 0, 100, 0), (0, 10, 100, 0), 0),
-        ((0, 0, 100, 100), (100, 0, -100, 100), 32768),
-        ((0, 0, -100, 0), (-25, -5, 0, 10), 16384),
-        ((10, 20, 0, -200), (0, -80, 64, 0), 32768),
-        ((0, 0, 3, 7), (1, 1, 5, -2), 11189),
-        ((0, 0, 0, 0), (1, 1, 1, 1), 0),
-        ((-1000, -1000, 2000, 2000), (0, 1000, 1000, -1000), 49152),
-        ((0, 0, 30000, 30000), (20000, 0, 0, 30000), 43690),
-        ((1, 1, 599, -1), (512, 512, 0, -1024), 55908),
-    ] {
-        assert_eq!(rt;
-            intercept(&way(trace), &way(line)),
-            want,
-            "{trace:?} meets {line:?}"
-        );
+fn intercepts(rt: HostRuntime) -> Result<(), Fail> {
+    for line in MEETINGS.lines() {
+        let row = numbers(rt.alloc(), line)?;
+        let met = intercept(&way(&row, 0), &way(&row, 4));
+        expect(&rt, line, &[i64::from(met)], behind(&row, 8));
     }
-}
-
-/// Two threads read one level at a time.
-fn size_by_two<R: Threads + Sync>(rt: &R, level: &Level) -> (u32, u32) {
-    join(rt, || level.width(), || level.height())
+    Ok(())
 }
