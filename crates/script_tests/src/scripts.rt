@@ -309,12 +309,12 @@ fn a_search_is_its_targets_and_one_command(rt: HostRuntime) -> Result<(), Fail> 
     let health = Want::Reading(Quantity::Health, Op::GreaterEqual, 131_072);
     expect_command(&rt, alloc, &script, (0, 4), &Command::Want(health))?;
     expect_command(&rt, alloc, &script, (1, 5), &Command::Want(Want::Line(7)))?;
-    let go = searched(alloc, &[health, Want::Line(7)])?;
+    let go = searched(alloc, health)?;
     expect_command(&rt, alloc, &script, (2, 7), &go)
 }
 
-/// The search over two tics, both turned and the second used, for these targets.
-fn searched(alloc: Global, wants: &[Want]) -> Result<Command, Fail> {
+/// The search over two tics, both turned and the second used, for this target and line 7.
+fn searched(alloc: Global, want: Want) -> Result<Command, Fail> {
     let rest = Range { low: 0, high: 0 };
     let turned = TicRanges {
         forward: rest,
@@ -327,6 +327,6 @@ fn searched(alloc: Global, wants: &[Want]) -> Result<Command, Fail> {
         ..turned
     };
     let space = Space::new(alloc, Vec::from_slice(alloc, &[turned, used])?, true)?;
-    let wants = Wants::new(Vec::from_slice(alloc, wants)?);
+    let wants = Wants::new(Vec::from_slice(alloc, &[want, Want::Line(7)])?);
     Ok(Command::Go(space, wants))
 }
