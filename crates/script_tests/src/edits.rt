@@ -1,6 +1,7 @@
+use crate::rows::{at, behind, expect, numbers};
 use build_edits::{EditFault, Tape};
 use lmp_codec::{MOST_TICS, Tic};
-use std::process::Abort;
+use std::alloc::{AllocError, Global};
 use std::test::Fail;
 
 #[derive(Clone, Copy)]
@@ -36,60 +37,87 @@ fn carry_out(tape: &mut Tape, edit: Edit) -> Result<(), EditFault> {
     }
 }
 
-/// The tape has tics that move ahead by so much, and its cursor at this place; and so it has once the cursor was moved
-/// to the end and back.
-fn assert_holds(rt: &impl Abort, tape: &mut Tape, forward: &[i8], cursor: u32) {
-    assert_eq!(rt; tape.cursor(), cursor);
-    assert_eq!(rt; tape.len(), forward.len());
-    let before = tape.before();
-    assert_eq!(rt; before.len(), cursor as usize);
-    assert!(rt; before.iter().zip(forward).all(|(tic, f)| tic.forward == *f));
-    assert_eq!(rt; tape.seek(forward.len() as u32), Ok(()));
-    assert!(rt;
-        tape.before()
-            .iter()
-            .zip(forward)
-            .all(|(tic, f)| tic.forward == *f)
-    );
-    assert_eq!(rt; tape.seek(cursor), Ok(()));
+/// A command with its two numbers, its answer, the cursor, and the tics. An answer is -1 where all is well, -2 where
+/// no tic is before, and else the place at fault.
+const EDITS: &str = "\
+repeat 1 0 -2 0
+delete 0 0 0 0
+seek 1 0 0 0
+put 1 0 -1 1 1
+repeat 2 0 -1 3 1 1 1
+delete 0 0 3 3 1 1 1
+seek 1 0 -1 1 1 1 1
+insert 2 0 -1 2 1 2 1 1
+delete 0 0 -1 2 1 2 1
+seek 0 0 -1 0 1 2 1
+put 3 0 -1 1 3 2 1
+repeat 1 0 -1 2 3 3 1
+repeat 2 0 -1 4 3 3 3 3
+seek 2 0 -1 2 3 3 3 3
+cut 0 0 -1 2 3 3
+seek 1 0 -1 1 3 3
+accept 4 5 -1 3 3 4 5
+seek 4 0 3 3 3 4 5";
+
+/// The edit of a row, whose first letter tells its command.
+fn edit_of(line: &str, row: &[i64]) -> Edit {
+    let place = u32::try_from(at(row, 1)).unwrap_or(u32::MAX);
+    let (first, second) = (small(row, 1), small(row, 2));
+    match line.as_bytes().first() {
+        Some(b's') => Edit::Seek(place),
+        Some(b'p') => Edit::Put(first),
+        Some(b'i') => Edit::Insert(first),
+        Some(b'd') => Edit::Delete,
+        Some(b'c') => Edit::Cut,
+        Some(b'r') => Edit::Repeat(place),
+        _ => Edit::Accept(first, second),
+    }
+}
+
+fn small(row: &[i64], place: usize) -> i8 {
+    i8::try_from(at(row, place)).unwrap_or(i8::MAX)
+}
+
+fn answer_of(row: &[i64]) -> Result<(), EditFault> {
+    match at(row, 3) {
+        -1 => Ok(()),
+        -2 => Err(EditFault::Before),
+        place => Err(EditFault::Place(u32::try_from(place).unwrap_or(u32::MAX))),
+    }
+}
+
+/// How far ahead each of these tics moves.
+fn moves(alloc: Global, tics: &[Tic]) -> Result<Vec<i64>, AllocError> {
+    let mut moves = Vec::new(alloc);
+    for tic in tics {
+        moves.push(i64::from(tic.forward))?;
+    }
+    Ok(moves)
+}
+
+/// The cursor, and how far ahead each tic of the tape moves; the cursor is moved to the end and back.
+fn held(alloc: Global, tape: &mut Tape) -> Result<Vec<i64>, Fail> {
+    let cursor = tape.cursor();
+    let mut held = Vec::new(alloc);
+    held.push(i64::from(cursor))?;
+    tape.seek(u32::try_from(tape.len())?)?;
+    let moves = moves(alloc, tape.before())?;
+    held.extend_from_slice(&moves)?;
+    tape.seek(cursor)?;
+    Ok(held)
 }
 
 #[test]
-fn each_edit_does_what_its_command_says(rt: HostRuntime) {
+fn each_edit_does_what_its_command_says(rt: HostRuntime) -> Result<(), Fail> {
     let mut tape = Tape::new(Vec::new(rt.alloc()));
-    for (edit, answer, forward, cursor) in [
-        (Edit::Repeat(1), Err(EditFault::Before), [].as_slice(), 0),
-        (Edit::Delete, Err(EditFault::Place(0)), [].as_slice(), 0),
-        (Edit::Seek(1), Err(EditFault::Place(0)), [].as_slice(), 0),
-        (Edit::Put(1), Ok(()), [1].as_slice(), 1),
-        (Edit::Repeat(2), Ok(()), [1, 1, 1].as_slice(), 3),
-        (
-            Edit::Delete,
-            Err(EditFault::Place(3)),
-            [1, 1, 1].as_slice(),
-            3,
-        ),
-        (Edit::Seek(1), Ok(()), [1, 1, 1].as_slice(), 1),
-        (Edit::Insert(2), Ok(()), [1, 2, 1, 1].as_slice(), 2),
-        (Edit::Delete, Ok(()), [1, 2, 1].as_slice(), 2),
-        (Edit::Seek(0), Ok(()), [1, 2, 1].as_slice(), 0),
-        (Edit::Put(3), Ok(()), [3, 2, 1].as_slice(), 1),
-        (Edit::Repeat(1), Ok(()), [3, 3, 1].as_slice(), 2),
-        (Edit::Repeat(2), Ok(()), [3, 3, 3, 3].as_slice(), 4),
-        (Edit::Seek(2), Ok(()), [3, 3, 3, 3].as_slice(), 2),
-        (Edit::Cut, Ok(()), [3, 3].as_slice(), 2),
-        (Edit::Seek(1), Ok(()), [3, 3].as_slice(), 1),
-        (Edit::Accept(4, 5), Ok(()), [3, 4, 5].as_slice(), 3),
-        (
-            Edit::Seek(4),
-            Err(EditFault::Place(3)),
-            [3, 4, 5].as_slice(),
-            3,
-        ),
-    ] {
-        assert_eq!(rt; carry_out(&mut tape, edit), answer);
-        assert_holds(&rt, &mut tape, forward, cursor);
+    for line in EDITS.lines() {
+        let row = numbers(rt.alloc(), line)?;
+        let answer = carry_out(&mut tape, edit_of(line, &row));
+        assert_eq!(rt; answer, answer_of(&row));
+        let held = held(rt.alloc(), &mut tape)?;
+        expect(&rt, line, &held, behind(&row, 4));
     }
+    Ok(())
 }
 
 #[test]

@@ -12,4 +12,6 @@ mod frames;
 #[cfg(test)]
 mod ranges;
 #[cfg(test)]
+mod rows;
+#[cfg(test)]
 mod scripts;

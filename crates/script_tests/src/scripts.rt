@@ -1,9 +1,10 @@
+use crate::rows::{expect, numbers};
 use brute_ranges::{Range, Space, TicRanges};
 use brute_targets::{Op, Want, Wants};
 use build_script::{Command, Kind, Script, ScriptFault, read_script};
 use game_trait::Quantity;
 use lmp_codec::Tic;
-use std::alloc::Global;
+use std::alloc::{AllocError, Global};
 use std::process::Abort;
 use std::test::Fail;
 
@@ -15,39 +16,75 @@ fn refusal(alloc: Global, text: &[u8], worlds: bool, long: bool) -> Option<Scrip
     }
 }
 
-/// Asserts that each text is read, or refused at this line for this reason.
-fn expect_refusals(
-    rt: &impl Abort,
-    alloc: Global,
-    worlds: bool,
-    long: bool,
-    rows: &[(&[u8], Option<(u32, Kind)>)],
-) {
-    for (text, fault) in rows {
-        let expected = match fault {
-            Some((line, kind)) => Some(ScriptFault::Line(*line, *kind)),
-            None => None,
-        };
-        assert_eq!(rt; refusal(alloc, text, worlds, long), expected, "{text:?}");
+/// The line and the reason at the head of a row: a letter for the reason, and the line's number.
+fn fault_of(row: &[u8]) -> Option<ScriptFault> {
+    let kind = match row.first() {
+        Some(b'W') => Kind::Word,
+        Some(b'N') => Kind::Number,
+        Some(b'R') => Kind::Range,
+        Some(b'M') => Kind::Missing,
+        Some(b'S') => Kind::Space,
+        _ => return None,
+    };
+    let digit = row.get(1).copied().unwrap_or(0);
+    Some(ScriptFault::Line(u32::from(digit.wrapping_sub(b'0')), kind))
+}
+
+/// Asserts of each row, up to a semicolon, that its text is read, or refused at this line for this reason.
+fn expect_refusals(rt: &impl Abort, alloc: Global, worlds: bool, long: bool, rows: &str) {
+    for row in rows.split(';') {
+        let text = row.as_bytes().get(3..).unwrap_or(&[]);
+        let fault = refusal(alloc, text, worlds, long);
+        assert_eq!(rt; fault, fault_of(row.as_bytes()), "{row:?}");
     }
 }
 
-/// Asserts that a script has these commands at these lines.
+/// A command's number in the list of commands, and what it holds.
+fn summary(command: &Command) -> [i64; 5] {
+    match command {
+        Command::Seek(place) => [1, i64::from(*place), 0, 0, 0],
+        Command::Put(tic) => with_tic(2, tic),
+        Command::Insert(tic) => with_tic(3, tic),
+        Command::Delete => [4, 0, 0, 0, 0],
+        Command::Cut => [5, 0, 0, 0, 0],
+        Command::Repeat(count) => [6, i64::from(*count), 0, 0, 0],
+        _ => [0; 5],
+    }
+}
+
+fn with_tic(number: i64, tic: &Tic) -> [i64; 5] {
+    [
+        number,
+        i64::from(tic.forward),
+        i64::from(tic.side),
+        i64::from(tic.turn),
+        i64::from(tic.buttons),
+    ]
+}
+
+/// The lines of a script's commands, and what these are.
+fn summaries(alloc: Global, script: &Script) -> Result<Vec<i64>, AllocError> {
+    let mut numbers = Vec::new(alloc);
+    for i in 0..script.len() {
+        numbers.push(i64::from(script.line(i)))?;
+        numbers.extend_from_slice(&summary(script.command(i)))?;
+    }
+    Ok(numbers)
+}
+
+/// Asserts that a text is read as these commands, each with its line.
 fn expect_commands(
     rt: &impl Abort,
     alloc: Global,
-    script: &Script,
-    rows: &[(u32, Command)],
+    text: &[u8],
+    worlds: bool,
+    long: bool,
+    rows: &str,
 ) -> Result<(), Fail> {
-    assert_eq!(rt; script.len(), rows.len());
-    for (i, (line, command)) in rows.iter().enumerate() {
-        assert!(rt; i < script.len());
-        assert_eq!(rt; script.line(i), *line);
-        assert_eq!(rt;
-            text_of(alloc, script.command(i))?,
-            text_of(alloc, command)?
-        );
-    }
+    let script = read_script(alloc, text, worlds, long)?;
+    let found = summaries(alloc, &script)?;
+    let wanted = numbers(alloc, rows)?;
+    expect(rt, rows, &found, &wanted);
     Ok(())
 }
 
@@ -56,247 +93,186 @@ fn text_of(alloc: Global, command: &Command) -> Result<String, Fail> {
     Ok(format!(in alloc; "{command:?}")?)
 }
 
-fn tic(rt: &impl Abort, forward: i8, side: i8, turn: u16, buttons: u8) -> Tic {
-    Tic::new(forward, side, turn, buttons).expect(rt, "a tic")
+/// Asserts that a script has this command, at this line.
+fn expect_command(
+    rt: &impl Abort,
+    alloc: Global,
+    script: &Script,
+    (place, line): (usize, u32),
+    command: &Command,
+) -> Result<(), Fail> {
+    assert!(rt; place < script.len());
+    assert_eq!(rt; script.line(place), line);
+    let found = text_of(alloc, script.command(place))?;
+    assert_eq!(rt; found, text_of(alloc, command)?);
+    Ok(())
 }
+
+/// Numbers at their bounds.
+const BOUNDS: &str = "\
+OK seek 0;\
+R1 seek -1;\
+OK seek 1000000;\
+R1 seek 1000001;\
+OK put -127 0 0 0;\
+R1 put -128 0 0 0;\
+OK put 127 0 0 0;\
+R1 put 128 0 0 0;\
+OK put 0 -128 0 0;\
+R1 put 0 -129 0 0;\
+OK put 0 127 0 0;\
+R1 put 0 128 0 0;\
+OK insert 0 0 -128 0;\
+R1 insert 0 0 -129 0;\
+OK insert 0 0 255 0;\
+R1 insert 0 0 256 0;\
+OK insert 0 0 0 0;\
+R1 insert 0 0 0 -1;\
+OK insert 0 0 0 255;\
+R1 insert 0 0 0 256;\
+OK repeat 1;\
+R1 repeat 0;\
+OK repeat 1000000;\
+R1 repeat 1000001;\
+OK seek 000000000000000007;\
+R1 seek 999999999999999999";
 
 #[test]
 fn numbers_are_bounded_on_both_sides(rt: HostRuntime) {
-    let range = Some((1, Kind::Range));
-    expect_refusals(
-        &rt,
-        rt.alloc(),
-        false,
-        false,
-        &[
-            (b"seek 0", None),
-            (b"seek -1", range),
-            (b"seek 1000000", None),
-            (b"seek 1000001", range),
-            (b"put -127 0 0 0", None),
-            (b"put -128 0 0 0", range),
-            (b"put 127 0 0 0", None),
-            (b"put 128 0 0 0", range),
-            (b"put 0 -128 0 0", None),
-            (b"put 0 -129 0 0", range),
-            (b"put 0 127 0 0", None),
-            (b"put 0 128 0 0", range),
-            (b"insert 0 0 -128 0", None),
-            (b"insert 0 0 -129 0", range),
-            (b"insert 0 0 255 0", None),
-            (b"insert 0 0 256 0", range),
-            (b"insert 0 0 0 0", None),
-            (b"insert 0 0 0 -1", range),
-            (b"insert 0 0 0 255", None),
-            (b"insert 0 0 0 256", range),
-            (b"repeat 1", None),
-            (b"repeat 0", range),
-            (b"repeat 1000000", None),
-            (b"repeat 1000001", range),
-            (b"seek 000000000000000007", None),
-            (b"seek 999999999999999999", range),
-        ],
-    );
+    expect_refusals(&rt, rt.alloc(), false, false, BOUNDS);
 }
+
+/// Of each text the first fault.
+const FAULTS: &str = "\
+W1 jump 3;\
+W1 show;\
+W1 brute 1;\
+W1 range all use 0 1;\
+W1 want exit;\
+W1 go;\
+W1 Cut;\
+W1 cut 1;\
+W1 delete x;\
+W1 put 1 0 0 0 0;\
+W1 put 1 0 0 0 # no comment;\
+W1 cut\r;\
+W1 cut\r\r\n;\
+W1 cut\x0b;\
+N1 put x 0 0 0;\
+N1 put +1 0 0 0;\
+N1 put - 0 0 0;\
+N1 put --1 0 0 0;\
+N1 put 1- 0 0 0;\
+N1 put 0x1 0 0 0;\
+N1 put \u{e9} 0 0 0;\
+N1 seek 1234567890123456789;\
+N1 seek -0000000000000000000;\
+N1 put x 200;\
+R1 put 200 x;\
+M1 put 1;\
+M1 seek;\
+M1 repeat;\
+M5 cut\n\n# rest\n \t \r\nseek\njump\n";
 
 #[test]
 fn the_first_fault_is_named(rt: HostRuntime) {
-    let word = Some((1, Kind::Word));
-    let number = Some((1, Kind::Number));
-    let missing = Some((1, Kind::Missing));
-    expect_refusals(
-        &rt,
-        rt.alloc(),
-        false,
-        false,
-        &[
-            (b"jump 3", word),
-            (b"show", word),
-            (b"brute 1", word),
-            (b"range all use 0 1", word),
-            (b"want exit", word),
-            (b"go", word),
-            (b"Cut", word),
-            (b"cut 1", word),
-            (b"delete x", word),
-            (b"put 1 0 0 0 0", word),
-            (b"put 1 0 0 0 # no comment", word),
-            (b"cut\r", word),
-            (b"cut\r\r\n", word),
-            (b"cut\x0b", word),
-            (b"\xff\xfe", word),
-            (b"put x 0 0 0", number),
-            (b"put +1 0 0 0", number),
-            (b"put - 0 0 0", number),
-            (b"put --1 0 0 0", number),
-            (b"put 1- 0 0 0", number),
-            (b"put 0x1 0 0 0", number),
-            (b"put \xc3\xa9 0 0 0", number),
-            (b"seek 1234567890123456789", number),
-            (b"seek -0000000000000000000", number),
-            (b"put x 200", number),
-            (b"put 200 x", Some((1, Kind::Range))),
-            (b"put 1", missing),
-            (b"seek", missing),
-            (b"repeat", missing),
-            (
-                b"cut\n\n# rest\n \t \r\nseek\njump\n",
-                Some((5, Kind::Missing)),
-            ),
-        ],
-    );
+    expect_refusals(&rt, rt.alloc(), false, false, FAULTS);
+    let fault = refusal(rt.alloc(), b"\xff\xfe", false, false);
+    assert_eq!(rt; fault, Some(ScriptFault::Line(1, Kind::Word)));
 }
 
 #[test]
 fn commands_keep_their_lines(rt: HostRuntime) -> Result<(), Fail> {
+    let alloc = rt.alloc();
     let text = b"put 1 2 3 4\nput 5 6 7 8\n\nseek 1\n  # cut\ncut";
-    expect_commands(
-        &rt,
-        rt.alloc(),
-        &read_script(rt.alloc(), text, false, false)?,
-        &[
-            (1, Command::Put(tic(&rt, 1, 2, 3 * 256, 4))),
-            (2, Command::Put(tic(&rt, 5, 6, 7 * 256, 8))),
-            (4, Command::Seek(1)),
-            (6, Command::Cut),
-        ],
-    )?;
+    let rows = "1 2 1 2 768 4  2 2 5 6 1792 8  4 1 1 0 0 0  6 5 0 0 0 0";
+    expect_commands(&rt, alloc, text, false, false, rows)?;
     let text = b"put -0 0 0 0\r\n\trepeat\t2\t\r\n\r\n#\r\ninsert 2 -1 -128 3 \r\ndelete\r\n";
-    expect_commands(
-        &rt,
-        rt.alloc(),
-        &read_script(rt.alloc(), text, true, false)?,
-        &[
-            (1, Command::Put(tic(&rt, 0, 0, 0, 0))),
-            (2, Command::Repeat(2)),
-            (5, Command::Insert(tic(&rt, 2, -1, 128 * 256, 3))),
-            (6, Command::Delete),
-        ],
-    )?;
-    assert!(rt; read_script(rt.alloc(), b"", false, false)?.is_empty());
-    assert!(rt; read_script(rt.alloc(), b"\n#\n", false, false)?.is_empty());
-    Ok(())
+    let rows = "1 2 0 0 0 0  2 6 2 0 0 0  5 3 2 -1 32768 3  6 4 0 0 0 0";
+    expect_commands(&rt, alloc, text, true, false, rows)?;
+    expect_commands(&rt, alloc, b"", false, false, "")?;
+    expect_commands(&rt, alloc, b"\n#\n", false, false, "")?;
+    let text = b"put 0 0 1 0\nput 0 0 -1 0\ninsert 0 0 -32768 0";
+    let rows = "1 2 0 0 1 0  2 2 0 0 65535 0  3 3 0 0 32768 0";
+    expect_commands(&rt, alloc, text, false, true, rows)
 }
 
+/// Turns of a long demo at their bounds.
+const LONG_TURNS: &str = "\
+OK put 0 0 -32768 0;\
+R1 put 0 0 -32769 0;\
+OK insert 0 0 65535 0;\
+R1 insert 0 0 65536 0";
+
 #[test]
-fn a_long_demo_has_long_turns(rt: HostRuntime) -> Result<(), Fail> {
-    let range = Some((1, Kind::Range));
-    expect_refusals(
-        &rt,
-        rt.alloc(),
-        false,
-        true,
-        &[
-            (b"put 0 0 -32768 0", None),
-            (b"put 0 0 -32769 0", range),
-            (b"insert 0 0 65535 0", None),
-            (b"insert 0 0 65536 0", range),
-        ],
-    );
-    expect_commands(
-        &rt,
-        rt.alloc(),
-        &read_script(
-            rt.alloc(),
-            b"put 0 0 1 0\nput 0 0 -1 0\ninsert 0 0 -32768 0",
-            false,
-            true,
-        )?,
-        &[
-            (1, Command::Put(tic(&rt, 0, 0, 1, 0))),
-            (2, Command::Put(tic(&rt, 0, 0, 65_535, 0))),
-            (3, Command::Insert(tic(&rt, 0, 0, 32_768, 0))),
-        ],
-    )?;
-    Ok(())
+fn a_long_demo_has_long_turns(rt: HostRuntime) {
+    expect_refusals(&rt, rt.alloc(), false, true, LONG_TURNS);
 }
+
+/// Words of a session with worlds.
+const SESSIONS: &str = "\
+OK show\nshow sector 65535\nshow keys\nshow health;\
+M1 show sector;\
+N1 show sector x;\
+R1 show sector 65536;\
+W1 show sector 0 0;\
+W1 show keys 1;\
+W1 show doors;\
+M1 range all use 0 1;\
+M1 want x;\
+M1 go;\
+M1 brute;\
+N1 brute 5u;\
+R1 brute 0;\
+R1 brute 36;\
+W1 brute 1 1;\
+OK brute 35\n\n# rest\ngo;\
+M1 brute 1\n\n# rest;\
+M2 cut\nbrute 1\nwant exit;\
+M3 brute 1\ngo\ngo";
 
 #[test]
 fn a_session_with_worlds_has_more_words(rt: HostRuntime) {
-    let word = Some((1, Kind::Word));
-    let number = Some((1, Kind::Number));
-    let range = Some((1, Kind::Range));
-    let missing = Some((1, Kind::Missing));
-    expect_refusals(
-        &rt,
-        rt.alloc(),
-        true,
-        false,
-        &[
-            (b"show\nshow sector 65535\nshow keys\nshow health", None),
-            (b"show sector", missing),
-            (b"show sector x", number),
-            (b"show sector 65536", range),
-            (b"show sector 0 0", word),
-            (b"show keys 1", word),
-            (b"show doors", word),
-            (b"range all use 0 1", missing),
-            (b"want x", missing),
-            (b"go", missing),
-            (b"brute", missing),
-            (b"brute 5u", number),
-            (b"brute 0", range),
-            (b"brute 36", range),
-            (b"brute 1 1", word),
-            (b"brute 35\n\n# rest\ngo", None),
-            (b"brute 1\n\n# rest", missing),
-            (b"cut\nbrute 1\nwant exit", Some((2, Kind::Missing))),
-            (b"brute 1\ngo\ngo", Some((3, Kind::Missing))),
-        ],
-    );
+    expect_refusals(&rt, rt.alloc(), true, false, SESSIONS);
 }
+
+/// Lines of a search.
+const SEARCHES: &str = "\
+W2 brute 2\nseek 0;\
+W2 brute 2\nbrute 2;\
+W2 brute 2\nshow;\
+W2 brute 2\ngo on;\
+M2 brute 2\nrange;\
+N2 brute 2\nrange none use 0 0;\
+R2 brute 2\nrange 0 use 0 0;\
+R2 brute 2\nrange 3 use 0 0;\
+W2 brute 2\nrange all jump 0 0;\
+R2 brute 2\nrange 2 side -129 x;\
+OK brute 2\nrange 2 side -128 127\ngo;\
+R2 brute 2\nrange all use 1 0 0;\
+W2 brute 2\nrange all use 0 1 0;\
+OK brute 2\nrange all turn 0 255\ngo;\
+R2 brute 2\nrange all turn -1 255;\
+M2 brute 2\nwant;\
+W2 brute 2\nwant w = 0;\
+W2 brute 2\nwant x == 0;\
+N2 brute 2\nwant x = u;\
+N2 brute 2\nwant x = 5uu;\
+OK brute 2\nwant x = -32768u\nwant x = 65535u\ngo;\
+R2 brute 2\nwant x = -32769u;\
+R2 brute 2\nwant x = 999999999999999999u;\
+OK brute 2\nwant x = 4294967295\ngo;\
+R2 brute 2\nwant x = 4294967296;\
+W2 brute 2\nwant x = 0 0;\
+R2 brute 2\nwant line 65536;\
+W2 brute 2\nwant exit 1;\
+OK brute 5\nrange all turn 0 255\ngo;\
+S5 brute 6\nrange all turn 0 255\nrange 1 turn 0 0\nrange 2 use 0 1\ngo;\
+W3 brute 6\nrange all turn 0 255\ngo on";
 
 #[test]
 fn a_search_knows_its_own_words_alone(rt: HostRuntime) {
-    let word = Some((2, Kind::Word));
-    let number = Some((2, Kind::Number));
-    let range = Some((2, Kind::Range));
-    let missing = Some((2, Kind::Missing));
-    expect_refusals(
-        &rt,
-        rt.alloc(),
-        true,
-        false,
-        &[
-            (b"brute 2\nseek 0", word),
-            (b"brute 2\nbrute 2", word),
-            (b"brute 2\nshow", word),
-            (b"brute 2\ngo on", word),
-            (b"brute 2\nrange", missing),
-            (b"brute 2\nrange none use 0 0", number),
-            (b"brute 2\nrange 0 use 0 0", range),
-            (b"brute 2\nrange 3 use 0 0", range),
-            (b"brute 2\nrange all jump 0 0", word),
-            (b"brute 2\nrange 2 side -129 x", range),
-            (b"brute 2\nrange 2 side -128 127\ngo", None),
-            (b"brute 2\nrange all use 1 0 0", range),
-            (b"brute 2\nrange all use 0 1 0", word),
-            (b"brute 2\nrange all turn 0 255\ngo", None),
-            (b"brute 2\nrange all turn -1 255", range),
-            (b"brute 2\nwant", missing),
-            (b"brute 2\nwant w = 0", word),
-            (b"brute 2\nwant x == 0", word),
-            (b"brute 2\nwant x = u", number),
-            (b"brute 2\nwant x = 5uu", number),
-            (b"brute 2\nwant x = -32768u\nwant x = 65535u\ngo", None),
-            (b"brute 2\nwant x = -32769u", range),
-            (b"brute 2\nwant x = 999999999999999999u", range),
-            (b"brute 2\nwant x = 4294967295\ngo", None),
-            (b"brute 2\nwant x = 4294967296", range),
-            (b"brute 2\nwant x = 0 0", word),
-            (b"brute 2\nwant line 65536", range),
-            (b"brute 2\nwant exit 1", word),
-            (b"brute 5\nrange all turn 0 255\ngo", None),
-            (
-                b"brute 6\nrange all turn 0 255\nrange 1 turn 0 0\nrange 2 use 0 1\ngo",
-                Some((5, Kind::Space)),
-            ),
-            (
-                b"brute 6\nrange all turn 0 255\ngo on",
-                Some((3, Kind::Word)),
-            ),
-        ],
-    );
+    expect_refusals(&rt, rt.alloc(), true, false, SEARCHES);
 }
 
 /// A search with so many targets, and this line after them.
@@ -311,24 +287,15 @@ fn with_targets(alloc: Global, count: u32, last: &[u8]) -> Result<Vec<u8>, Fail>
 
 #[test]
 fn a_search_has_sixteen_targets(rt: HostRuntime) -> Result<(), Fail> {
-    let alloc = rt.alloc();
-    expect_refusals(
-        &rt,
-        alloc,
-        true,
-        false,
-        &[
-            (&with_targets(alloc, 16, b"go")?, None),
-            (
-                &with_targets(alloc, 16, b"want exit")?,
-                Some((18, Kind::Range)),
-            ),
-            (
-                &with_targets(alloc, 16, b"want exit 0")?,
-                Some((18, Kind::Word)),
-            ),
-        ],
-    );
+    for (last, kind) in [
+        (b"go".as_slice(), None),
+        (b"want exit".as_slice(), Some(Kind::Range)),
+        (b"want exit 0".as_slice(), Some(Kind::Word)),
+    ] {
+        let text = with_targets(rt.alloc(), 16, last)?;
+        let fault = kind.map(|kind| ScriptFault::Line(18, kind));
+        assert_eq!(rt; refusal(rt.alloc(), &text, true, false), fault);
+    }
     Ok(())
 }
 
@@ -337,6 +304,17 @@ fn a_search_is_its_targets_and_one_command(rt: HostRuntime) -> Result<(), Fail> 
     let alloc = rt.alloc();
     let text =
         b"brute 2\nrange all turn -3 7\nrange 2 use 0 1\nwant health >= 2u\nwant line 7\n\ngo";
+    let script = read_script(alloc, text, true, true)?;
+    assert_eq!(rt; script.len(), 3);
+    let health = Want::Reading(Quantity::Health, Op::GreaterEqual, 131_072);
+    expect_command(&rt, alloc, &script, (0, 4), &Command::Want(health))?;
+    expect_command(&rt, alloc, &script, (1, 5), &Command::Want(Want::Line(7)))?;
+    let go = searched(alloc, health)?;
+    expect_command(&rt, alloc, &script, (2, 7), &go)
+}
+
+/// The search over two tics, both turned and the second used, for this target and line 7.
+fn searched(alloc: Global, want: Want) -> Result<Command, Fail> {
     let rest = Range { low: 0, high: 0 };
     let turned = TicRanges {
         forward: rest,
@@ -348,20 +326,7 @@ fn a_search_is_its_targets_and_one_command(rt: HostRuntime) -> Result<(), Fail> 
         using: Range { low: 0, high: 1 },
         ..turned
     };
-    let health = Want::Reading(Quantity::Health, Op::GreaterEqual, 131_072);
-    let wants = Vec::from_slice(alloc, &[health, Want::Line(7)])?;
-    let Ok(space) = Space::new(alloc, Vec::from_slice(alloc, &[turned, used])?, true) else {
-        assert!(rt; false);
-        return Ok(());
-    };
-    expect_commands(
-        &rt,
-        alloc,
-        &read_script(alloc, text, true, true)?,
-        &[
-            (4, Command::Want(health)),
-            (5, Command::Want(Want::Line(7))),
-            (7, Command::Go(space, Wants::new(wants))),
-        ],
-    )
+    let space = Space::new(alloc, Vec::from_slice(alloc, &[turned, used])?, true)?;
+    let wants = Wants::new(Vec::from_slice(alloc, &[want, Want::Line(7)])?);
+    Ok(Command::Go(space, wants))
 }
