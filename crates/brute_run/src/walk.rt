@@ -19,16 +19,26 @@ use lmp_codec::Tic;
 use std::alloc::Global;
 use std::marker::Model;
 
+// So many numbers are tried over pages that other walks share: pages of its own cost a walk a copy of the whole level.
+const FEW_TRIES: u32 = 256;
+
 /// A kept world, and one world for each depth along the sequence that was tried last. So of the next sequence only
 /// the tics from the first one on that differs are played. Contracts see it as a `Walked`.
 ///
-/// After want of memory nothing is known of a walk but its kept world.
+/// The worlds of a walk that has tried few numbers share pages with the world that it began from. After 256 numbers
+/// the walk gives the world from which it plays on pages of its own, where it has none yet: once a depth at most.
+///
+/// After want of memory nothing is known of a walk but its kept world and the number that was tried last.
 #[derive(Drop)]
 pub struct Walk<G: Game> {
     kept: G::World,
     worlds: Vec<G::World>,
     lines: Vec<u16>,
     last: u64,
+    // How many numbers were tried, up to `FEW_TRIES`.
+    tries: u32,
+    // After so many tics and more, the worlds are forks of one that got pages of its own.
+    own_from: usize,
 }
 
 impl<G: Game> Model for Walk<G> {
@@ -70,6 +80,30 @@ fn fork_top<G: Game>(
     Ok(forked)
 }
 
+/// Gives the last of the worlds, or the kept world where there is none, pages of its own.
+fn own_top<G: Game>(
+    alloc: Global,
+    game: &G,
+    kept: &mut G::World,
+    worlds: &mut Vec<G::World>,
+    steps: &mut Steps,
+) -> Result<(), Memory>
+    requires kept { G.fits game.now kept.old }
+    requires worlds { G.fits game.now (top_world kept.old worlds.old.items) }
+    ensures kept { kept.new ≡ kept.old }
+    ensures worlds { worlds.new.items ≡ worlds.old.items }
+    ensures tics { steps.new.tics ≡ steps.old.tics }
+    ensures pages_never_fall { steps.old.pages ≤ steps.new.pages }
+{
+    let len = worlds.len();
+    if len == 0 {
+        game.own_pages(alloc, kept, steps)?;
+        return Ok(());
+    }
+    game.own_pages(alloc, &mut worlds[len - 1], steps)?;
+    Ok(())
+}
+
 /// The last of the line bits, or none.
 fn last_of(lines: &[u16]) -> u16
     ensures { result ≡ top_lines lines.now }
@@ -81,7 +115,7 @@ fn last_of(lines: &[u16]) -> u16
 }
 
 impl<G: Game> Walk<G> {
-    /// A walk from a fork of the kept world, which gets pages of its own. No number was tried yet, and it belongs to
+    /// A walk from a fork of the kept world, with which it shares pages. No number was tried yet, and it belongs to
     /// this game, any targets and any sequences. It takes no tic step, and leaves the kept world as it was.
     pub fn new(
         alloc: Global,
@@ -97,14 +131,35 @@ impl<G: Game> Walk<G> {
         ensures tics { steps.new.tics ≡ steps.old.tics }
         ensures pages_never_fall { steps.old.pages ≤ steps.new.pages }
     {
-        let mut own = game.fork(alloc, kept, steps)?;
-        game.own_pages(alloc, &mut own, steps)?;
         Ok(Walk {
-            kept: own,
+            kept: game.fork(alloc, kept, steps)?,
             worlds: Vec::new(alloc),
             lines: Vec::new(alloc),
             last: 0,
+            tries: 0,
+            own_from: usize::MAX,
         })
+    }
+
+    /// Counts one try more; or, once enough were counted, gives the world that is forked next pages of its own, where it
+    /// is no fork of one that has some.
+    fn count_try(&mut self, alloc: Global, game: &G, steps: &mut Steps) -> Result<(), Memory>
+        requires kept { G.fits game.now self.old.kept }
+        requires top { G.fits game.now (top_world self.old.kept self.old.worlds) }
+        ensures same { self.new ≡ self.old }
+        ensures tics { steps.new.tics ≡ steps.old.tics }
+        ensures pages_never_fall { steps.old.pages ≤ steps.new.pages }
+    {
+        if self.tries < FEW_TRIES {
+            self.tries += 1;
+            return Ok(());
+        }
+        let depth = self.worlds.len();
+        if depth < self.own_from {
+            own_top(alloc, game, &mut self.kept, &mut self.worlds, steps)?;
+            self.own_from = depth;
+        }
+        Ok(())
     }
 
     /// Plays one tic more.
@@ -137,7 +192,7 @@ impl<G: Game> Walk<G> {
         Ok(())
     }
 
-    /// Plays the tics of the last number that were not played yet.
+    /// Plays the tics of the last number that were not played yet, and counts the try.
     fn extend(
         &mut self,
         alloc: Global,
@@ -155,6 +210,7 @@ impl<G: Game> Walk<G> {
         ensures tics_never_fall { steps.old.tics ≤ steps.new.tics }
         ensures pages_never_fall { steps.old.pages ≤ steps.new.pages }
     {
+        self.count_try(alloc, game, steps)?;
         let depth = space.depth();
         let played = self.worlds.len() as u32;
         'playing: for place in played..depth {

@@ -1,21 +1,22 @@
 use Rattle.std.proofs.Common.{rules, ◌≡◌, length, Some, slice_get, refl, sym, ◌∙◌, ap, subst, arith}
 use Rattle.brute_ranges.specs.Space.{sequence_at}
 use Rattle.std.proofs.lemmas.List.{length_push}
-use Rattle.brute_run.specs.Walks.{Walked, top_world}
+use Rattle.brute_run.specs.Walks.{Walked, Belongs, top_world}
 use Rattle.brute_run.proofs.Along.{belongs_push, steps_none, steps_more}
 use Rattle.brute_run.proofs.walk.Walk.extend.Goals as goal
 
 pub playing-init : goal.playing-init
 playing-init g c =
-    let place : length c.args.self.now.worlds ≡ c.len-played.result = search rules in
+    let same = c.count_try.ensures.same in
+    let place : length c.count_try.new.self.worlds ≡ c.len-played.result = search rules in
     record {
-      belongs = c.requires;
-      kept = refl;
-      last = refl;
+      belongs = subst (λ (v : Walked _). Belongs g.G.Game c.args.game.now c.args.wants.now c.args.space.now v) (sym same) c.requires;
+      kept = ap (λ (v : Walked _). v.kept) same;
+      last = ap (λ (v : Walked _). v.last) same;
       place = place;
-      tics = steps_none c.args.steps.now.tics c.len-played.result (length c.args.self.now.worlds) (sym place);
-      tics_never_fall = omega arith;
-      pages_never_fall = omega arith;
+      tics = c.count_try.ensures.tics ∙ steps_none c.args.steps.now.tics c.len-played.result (length c.args.self.now.worlds) (sym place ∙ ap (λ (v : Walked _). length v.worlds) same);
+      tics_never_fall = omega (arith, c.count_try.ensures.tics);
+      pages_never_fall = omega (arith, c.count_try.ensures.pages_never_fall);
     }
 
 pub playing-preserved : goal.playing-preserved
@@ -24,7 +25,8 @@ playing-preserved g c =
     let lines = c.in_ok-play.ensures.lines in
     let at : slice_get (sequence_at c.args.space.now c.playing.self.last) (length c.playing.self.worlds) ≡ Some c.tic_at-tic.result =
     rw kept.place (subst (λ (v : Walked _). slice_get (sequence_at c.args.space.now v.last) c.playing.place ≡ Some c.tic_at-tic.result) c.self-in-playing.view_is c.tic_at-tic.ensures.tic) in
-    let from : length c.args.self.now.worlds ≡ c.len-played.result = search rules in
+    let played : length c.count_try.new.self.worlds ≡ c.len-played.result = search rules in
+    let from : length c.args.self.now.worlds ≡ c.len-played.result = ap (λ (v : Walked _). length v.worlds) (sym c.count_try.ensures.same) ∙ played in
     record {
       belongs = belongs_push g.G.Game c.args.game.now c.args.wants.now c.args.space.now c.playing.self c.play.new.self c.tic_at-tic.result _ lines.0
           kept.belongs at (omega (arith, c.depth-depth.ensures.depth, c.depth-depth.ensures.each c.playing.self.last kept.belongs.last)) refl c.in_ok-play.ensures.worlds.1 lines.2 c.in_ok-play.ensures.worlds.0 lines.1 c.play.ensures.kept c.play.ensures.last;
