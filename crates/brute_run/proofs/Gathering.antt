@@ -1,5 +1,5 @@
 -- The workers of a search, and what they hand back together.
-use Rattle.std.proofs.Common.{◌≡◌, ℕ, zero, suc, ◌+◌, ◌-◌, ◌^◌, ◌≤◌, Bool, min, List, [], ◌∷◌, ◌++◌, length, get_or, Result, Ok, IfOk, refl, sym, ◌∙◌, ap, subst, arith}
+use Rattle.std.proofs.Common.{◌≡◌, ℕ, zero, suc, ◌+◌, ◌-◌, ◌^◌, ◌≤◌, Bool, min, List, [], ◌∷◌, ◌++◌, length, get_or, Result, Ok, Err, IfOk, refl, sym, ◌∙◌, ap, subst, arith}
 use Rattle.std.specs.Prelude.{All, sum_by}
 use Rattle.std.proofs.lemmas.List.{length_push, get_or_append_left, get_or_push}
 use Rattle.std.proofs.lemmas.List.Elements.{All-append}
@@ -17,6 +17,11 @@ use Rattle.brute_run.specs.Working.{first_passing, least_block, HasWorked}
 -- a fact of what was answered
 pub if_ok : {A E : Type 0} (r : Result A E) (P : A → Type 0) (v : A) → r ≡ Ok v → IfOk r P → P v
 if_ok r P v is = subst (λ s. IfOk s P → P v) (sym is) (λ h. h)
+
+-- two facts of it
+pub both_ok : {A E : Type 0} (r : Result A E) (P Q : A → Type 0) → IfOk r P → IfOk r Q → IfOk r (λ v. P v × Q v)
+both_ok (Ok v) P Q one two = (one, two)
+both_ok (Err e) P Q one two = one
 
 -- a list without its last entry
 pub all_front : {X : Type 0} (P : X → Type 0) (xs front : List X) (x : X) → xs ≡ front ++ x ∷ [] → All P xs → All P front

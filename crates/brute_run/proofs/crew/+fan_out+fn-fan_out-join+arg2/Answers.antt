@@ -4,7 +4,7 @@ use Rattle.std.proofs.lemmas.List.{length_push}
 use Rattle.claim_board.specs.Seated.{Seated}
 use Rattle.brute_run.specs.Search.{meets}
 use Rattle.brute_run.specs.Working.{IsInCrew, HasWorked}
-use Rattle.brute_run.proofs.Gathering.{if_ok, all_front, all_last, gathered}
+use Rattle.brute_run.proofs.Gathering.{if_ok, both_ok, all_front, all_last, gathered}
 use Rattle.brute_run.proofs.crew.+fan_out+fn-fan_out-join+arg2.Goals as goal
 
 pub join-mine-requires-after_bounds : goal.join-mine-requires-after_bounds
@@ -15,6 +15,9 @@ join-mine-requires-after_bounds g t c κs within =
     let others : All P c.pop.new.self.items = all_front P c.args.others.items c.pop.new.self.items c.in-Some.other popped c.requires.others in
     let other : P c.in-Some.other = all_last P c.args.others.items c.pop.new.self.items c.in-Some.other popped c.requires.others in
     search rules
+
+pub join+arg2-returns : goal.join+arg2-returns
+join+arg2-returns g t c = both_ok c.fan_out.result _ _ c.fan_out.ensures.seat c.fan_out.ensures.worked
 
 pub returns-clause-worked : goal.returns-clause-worked
 returns-clause-worked g t c =
