@@ -8,5 +8,5 @@ mod walk;
 mod worker;
 
 pub use first::first_match;
-pub use order::{Simulated, simulate};
+pub use order::{Simulated, simulate, simulate_by};
 pub use walk::Walk;

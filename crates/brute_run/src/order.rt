@@ -11,7 +11,7 @@ use brute_ranges::Space;
 use brute_targets::Wants;
 use doom_edge::{Memory, Steps};
 use game_trait::Game;
-use search_core::Schedule;
+use search_core::{Schedule, Turns};
 use std::alloc::Global;
 
 /// What a search under an order came to.
@@ -50,8 +50,38 @@ pub fn simulate<G: Game>(
     ensures tics_never_fall { steps.old.tics ≤ steps.new.tics }
     ensures pages_never_fall { steps.old.pages ≤ steps.new.pages }
 {
+    let Ok(turns) = Turns::new(alloc, order) else {
+        return Err(Memory);
+    };
+    simulate_by(alloc, game, kept, space, wants, &turns, steps)
+}
+
+/// The same search under an order that was read, so that many searches read it once.
+///
+/// The kept world keeps its meaning, also where memory is wanting.
+pub fn simulate_by<G: Game>(
+    alloc: Global,
+    game: &G,
+    kept: &mut G::World,
+    space: &Space,
+    wants: &Wants,
+    turns: &Turns,
+    steps: &mut Steps,
+) -> Result<Simulated, Memory>
+    requires kept { G.fits game.now kept.old }
+    ensures first { IfOk result (λ done. done.first ≡ first_meeting G.Game game.now kept.old wants.now space.now) }
+    ensures turns { IfOk result (λ done. done.turns
+        ≡ events_of (count_of space.now) block_size (all_meeting G.Game game.now kept.old wants.now space.now) turns.now) }
+    ensures kept { kept.new ≡ kept.old }
+
+    // The tics that all hands play together: no fewer than the new ones of the numbers below the first, and no more
+    // than what all blocks cost.
+    ensures cost { OnOk result (Rises (search_cost G.Game game.now kept.old wants.now space.now) steps.old.tics steps.new.tics) }
+    ensures tics_never_fall { steps.old.tics ≤ steps.new.tics }
+    ensures pages_never_fall { steps.old.pages ≤ steps.new.pages }
+{
     let count = space.count();
-    let Ok(mut search) = Schedule::new(alloc, count, BLOCK, order) else {
+    let Ok(mut search) = Schedule::new(alloc, count, BLOCK, turns) else {
         return Err(Memory);
     };
     let mut walks = walks_of(alloc, game, kept, search.hands(), steps)?;

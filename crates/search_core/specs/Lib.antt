@@ -5,4 +5,5 @@ pub mod Order
 pub mod Trail
 pub mod Dues
 pub mod Keeps
+pub mod Places
 pub mod Schedules

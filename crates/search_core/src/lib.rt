@@ -11,8 +11,10 @@
 
 mod hand;
 mod machine;
+mod named;
 mod order;
 
 pub use hand::{Answer, Ask, Hand, Phase};
 pub use machine::{Core, Memory, Turn};
+pub use named::Turns;
 pub use order::{Schedule, Trial, any_order, number_of_turns};

@@ -9,9 +9,11 @@ ghost use Rattle.search_core.specs.Order.{IsSearch, Asks, hand_next, number_next
 ghost use Rattle.search_core.specs.Trail.{HaveTried, TriesNow};
 ghost use Rattle.search_core.specs.Dues.{left_to};
 ghost use Rattle.search_core.specs.Keeps.{Carries};
+ghost use Rattle.search_core.specs.Places.{KnowsNext};
 ghost use Rattle.search_core.specs.Schedules.{RunsNext, left_of};
 
 use crate::machine::{Core, Memory, Turn};
+use crate::named::Turns;
 use std::alloc::Global;
 use std::marker::Model;
 
@@ -48,64 +50,67 @@ pub struct Trial {
 /// A search whose hands take their turns under an order: first as the order names them, and then round
 /// after round from hand 0. The turn of a hand that has ended is skipped. Contracts see it as a `Progress`.
 #[derive(Debug, Drop)]
-pub struct Schedule {
+pub struct Schedule<'a> {
     core: Core,
-    order: Vec<u8>,
+    turns: &'a Turns,
+    next: Vec<usize>,
     place: usize,
     at: u32,
     taken: u64,
 }
 
-impl Model for Schedule {
+impl<'a> Model for Schedule<'a> {
     ghost use Rattle.std.specs.Prelude.{length};
     ghost use Rattle.search_core.specs.Order.{Progress};
+    ghost use Rattle.search_core.specs.Places.{KnowsNext};
     ghost use Rattle.search_core.specs.Schedules.{left_of, IsSchedule};
 
     ghost Value = { Progress };
 
     ghost view = { λ s. record {
       core = s.core;
-      left = left_of s.order.items s.place s.at (length s.core.hands);
+      left = left_of s.turns.now s.place s.at (length s.core.hands);
       taken = s.taken;
     } };
 
-    ghost invariant = { λ s. IsSchedule s.core s.order.items s.at s.taken };
+    ghost invariant = { λ s. IsSchedule s.core s.turns.now s.at s.taken × KnowsNext s.core s.turns.now s.place s.next.items };
 }
 
-/// As many hands as an order asks for: one more than its greatest number.
-fn hands_for(order: &[u8]) -> u32
-    requires { All (λ i. i < 64) order.now }
-    ensures hands { result ≡ hands_of order.now }
-    ensures few { result ≤ 64 }
-    ensures each { All (λ i. i < result) order.now }
+/// The least of a place and of the next place of a hand that has not ended.
+fn nearer(core: &Core, next: &[usize], hand: u32, place: usize) -> usize
+    requires hand { hand < length core.now.hands }
+    requires long { length next.now ≡ length core.now.hands }
+    ensures no_later { result ≤ place }
+    ensures this { is_over core.now hand ≡ false → result ≤ slice_index next.now hand }
+    ensures one { (result ≡ place) ⊎ ((is_over core.now hand ≡ false) × (result ≡ slice_index next.now hand)) }
 {
-    let mut greatest = 0;
-    for hand in order {
-        greatest = greatest.max(*hand);
+    if core.is_over(hand) {
+        return place;
     }
-    u32::from(greatest) + 1
+    place.min(next[hand as usize])
 }
 
-/// A copy of an order.
-fn copy_of(alloc: Global, order: &[u8]) -> Result<Vec<u8>, Memory>
-    ensures { IfOk result (λ v. v.items ≡ order.now) }
+/// The first place of the order from `place` on whose hand has not ended, or the order's end. `next` has for each hand
+/// that has not ended where it comes next.
+fn running_place(core: &Core, turns: &Turns, next: &[usize], place: usize) -> usize
+    requires hands { All (λ i. i < length core.now.hands) turns.now }
+    requires known { KnowsNext core.now turns.now place next.now }
+    ensures turns { (meets : ℕ → Bool) (at : ℕ) → events meets core.now (left_of turns.now result at (length core.now.hands))
+        ≡ events meets core.now (left_of turns.now place at (length core.now.hands)) }
+    ensures found { result < length turns.now → is_over core.now (slice_index turns.now result) ≡ false }
+    ensures known { KnowsNext core.now turns.now result next.now }
 {
-    Vec::from_slice(alloc, order).map_err(|_| Memory)
-}
-
-/// The first place of the order from `place` on whose hand has not ended, or one past its end.
-fn running_place(core: &Core, order: &[u8], place: usize) -> usize
-    requires hands { All (λ i. i < length core.now.hands) order.now }
-    ensures turns { (meets : ℕ → Bool) (at : ℕ) → events meets core.now (left_of order.now result at (length core.now.hands))
-        ≡ events meets core.now (left_of order.now place at (length core.now.hands)) }
-    ensures found { result < length order.now → is_over core.now (slice_index order.now result) ≡ false }
-{
-    for i in place..order.len() {
-        if !core.is_over(u32::from(order[i])) {
-            return i;
-        }
+    if place >= turns.len() {
+        return place;
     }
-    place.max(order.len())
+    if !core.is_over(turns.hand(place)) {
+        return place;
+    }
+    let mut nearest = turns.len();
+    for hand in 0..core.hands() {
+        nearest = nearer(core, next, hand, nearest);
+    }
+    nearest
 }
 
 /// The next hand of a round that has not ended, in this round or in the one after it, or the number of hands.
@@ -124,24 +129,29 @@ fn running_hand(core: &Core, at: u32) -> u32
     core.running_from(0)
 }
 
-impl Schedule {
+impl<'a> Schedule<'a> {
     /// A search among the numbers below `count`, in blocks of `block` numbers, by as many hands as the order
     /// asks for.
-    pub fn new(alloc: Global, count: u64, block: u64, order: &[u8]) -> Result<Schedule, Memory>
+    pub fn new(
+        alloc: Global,
+        count: u64,
+        block: u64,
+        turns: &'a Turns,
+    ) -> Result<Schedule<'a>, Memory>
         requires count { count ≤ 2 ^ 40 }
         requires positive { 0 < block }
         requires block { block ≤ 2 ^ 20 }
-        requires hands { All (λ i. i < 64) order.now }
-        ensures core { IfOk result (λ search. search.core ≡ opening count block (hands_of order.now)) }
-        ensures follows { IfOk result (λ search. (meets : List ℕ) → IsMeets count meets → Follows meets (events_of count block meets order.now) search) }
+        ensures core { IfOk result (λ search. search.core ≡ opening count block (hands_of turns.now)) }
+        ensures follows { IfOk result (λ search. (meets : List ℕ) → IsMeets count meets → Follows meets (events_of count block meets turns.now) search) }
         ensures covers { IfOk result (λ search. (left : ℕ → Bool) → Covers left search.core) }
         ensures tried { IfOk result (λ search. HaveTried (λ _. None) search.core) }
     {
-        let core = Core::new(alloc, count, block, hands_for(order))?;
-        let order = copy_of(alloc, order)?;
+        let core = Core::new(alloc, count, block, turns.hands())?;
+        let next = turns.first_places(alloc)?;
         Ok(Schedule {
             core,
-            order,
+            turns,
+            next,
             place: 0,
             at: 0,
             taken: 0,
@@ -158,8 +168,8 @@ impl Schedule {
         ensures ended { result ≡ false → (meets : ℕ → Bool) → events meets self.new.core self.new.left ≡ 0 }
         ensures sound { IsMachine self.new.core }
     {
-        self.place = running_place(&self.core, &self.order, self.place);
-        if self.place < self.order.len() {
+        self.place = running_place(&self.core, self.turns, &self.next, self.place);
+        if self.place < self.turns.len() {
             return true;
         }
         self.at = running_hand(&self.core, self.at);
@@ -172,8 +182,8 @@ impl Schedule {
         ensures next { result ≡ hand_next self.now }
         ensures hand { result < length self.now.core.hands }
     {
-        if self.place < self.order.len() {
-            u32::from(self.order[self.place])
+        if self.place < self.turns.len() {
+            self.turns.hand(self.place)
         } else {
             self.at
         }
@@ -185,7 +195,8 @@ impl Schedule {
         requires few { self.old.taken + work self.old.core < 2 ^ 43 }
         ensures { self.new ≡ record self.old { left = drop 1 self.old.left; taken = self.old.taken + 1 } }
     {
-        if self.place < self.order.len() {
+        if self.place < self.turns.len() {
+            self.turns.pass(self.place, &mut self.next);
             self.place += 1;
         } else {
             self.at += 1;

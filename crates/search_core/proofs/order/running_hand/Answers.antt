@@ -1,6 +1,6 @@
 use Rattle.std.proofs.Common.{arith}
 use Rattle.search_core.proofs.Runs.{all_over}
-use Rattle.search_core.proofs.Turns.{hand_passed, hand_passed_round}
+use Rattle.search_core.proofs.Left.{hand_passed, hand_passed_round}
 use Rattle.search_core.proofs.order.running_hand.Goals as goal
 
 pub returns-then-next-hands-clause-turns : goal.returns-then-next-hands-clause-turns

@@ -1,5 +1,5 @@
 use Rattle.search_core.proofs.Steps.{none_covered}
-use Rattle.search_core.proofs.Turns.{carries_same, carries_on, all_done}
+use Rattle.search_core.proofs.Left.{carries_same, carries_on, all_done}
 use Rattle.search_core.proofs.order.Schedule.next_try.Goals as goal
 
 pub returns-in-Try-clause-carries : goal.returns-in-Try-clause-carries

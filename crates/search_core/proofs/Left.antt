@@ -4,7 +4,7 @@ use Rattle.std.specs.Prelude.{All}
 use Rattle.std.proofs.lemmas.Bool.{cases_lt}
 use Rattle.std.proofs.lemmas.List.{drop_all, length-replicate}
 use Rattle.std.proofs.lemmas.List.Elements.{recursion_from_All, All-drop}
-use Rattle.search_core.specs.Machine.{Machine, opening, hand_at, turned, turn_in, tried, verdict, step, step_in, ended_in, AllOver, IsMachine, Covers, Fits, is_in}
+use Rattle.search_core.specs.Machine.{Machine, opening, hand_at, turned, turn_in, tried, verdict, step, step_in, ended_in, AllOver, IsMachine, Covers, Fits, is_in, work}
 use Rattle.search_core.specs.Numbers.{first_of}
 use Rattle.search_core.specs.Hand.{Standing, fresh, told, IsTry, number_in}
 use Rattle.search_core.specs.declared.hand.Phase.{Phase}
@@ -14,9 +14,11 @@ use Rattle.search_core.specs.Order.{numbers_from, is_over, events, greatest, han
 use Rattle.search_core.specs.Trail.{HaveTried, TriesNow}
 use Rattle.search_core.specs.Dues.{left_to}
 use Rattle.search_core.specs.Keeps.{KeepsOn, Carries}
+use Rattle.search_core.specs.Places.{KnowsNext}
 use Rattle.search_core.specs.Schedules.{left_of, IsSchedule, RunsNext}
 use Rattle.search_core.proofs.Steps.{keeps-turned, fits-tried, covers-tried, over-first, try_phase}
 use Rattle.search_core.proofs.Kept.{hands-turned, keeps_on-turned, keeps_on-same, keeps_on-both, have_tried-tried, left_to-tried}
+use Rattle.search_core.proofs.Coming.{knows_turned, knows_tried}
 use Rattle.search_core.proofs.Runs.{InRange, events-over, in_range-append, in_range-numbers, events-step, events-before_round, events-skip, events-round}
 
 -- one more place
@@ -124,6 +126,18 @@ pass_round order place at hands past some_hand = elim (cases_lt at hands) [
         let zero_left : hands - at ≡ 0 = omega arith in
         let empty : length (left_of order place at hands) ≡ 0 = ap length (is ∙ ap (numbers_from at) zero_left) in
         omega (arith, empty)
+
+pub front_of_round : (old : Progress) (core : Machine) (order : List ℕ) (place at taken : ℕ)
+    → (let now : Progress = record { core = core; left = left_of order place at (length core.hands); taken = taken } in now ≡ old)
+    → length order ≤ place → 0 < length old.left → at ≡ hand_next old
+front_of_round old core order place at taken same past =
+    subst (λ (p : Progress). 0 < length p.left → at ≡ hand_next p) same (λ some_hand. elim (cases_lt at (length core.hands)) [
+      | inl within ↦ sym (next_of_round order place at (length core.hands) past within).1
+      | inr none ↦
+          let zero_left : length core.hands - at ≡ 0 = omega arith in
+          let empty : length (left_of order place at (length core.hands)) ≡ 0 = ap length (left-end order place at (length core.hands) past ∙ ap (numbers_from at) zero_left) in
+          absurd (omega (arith, empty))
+    ])
 
 -- what is left after a turn was counted, of a schedule that is seen as old
 pub passed_order : (old : Progress) (core : Machine) (order : List ℕ) (place at taken : ℕ)
@@ -323,3 +337,40 @@ nothing_left core order place at meets over past whole =
 pub all_done : (search : Progress) (meets : List ℕ) (all : ℕ) → IsMachine search.core → AllOver search.core → events (is_in meets) search.core search.left ≡ 0 → Follows meets all search
     → (search.taken ≡ all) × (search.core.least ≡ first_of search.core.count meets)
 all_done search meets all sound over none h = (omega (arith, h.turns, none), over-first search.core meets sound over h.fits)
+
+-- what is true of a schedule is true after a turn, and after a try
+keeps_schedule : (core next : Machine) (order : List ℕ) (at taken : ℕ) → length next.hands ≡ length core.hands → IsMachine next → work next ≤ work core
+    → IsSchedule core order at taken → IsSchedule next order at taken
+keeps_schedule core next order at taken many sound less is = record {
+  sound = sound;
+  hands = λ k d inside. omega (arith, is.hands k d inside, many);
+  round = omega (arith, is.round, many);
+  few = omega (arith, is.few);
+}
+
+pub turned_still : (old : Progress) (core next : Machine) (order places : List ℕ) (place at taken hand : ℕ)
+    → (let seen : Progress = record { core = core; left = left_of order place at (length core.hands); taken = taken } in seen ≡ old)
+    → IsSchedule core order at taken → KnowsNext core order place places → RunsNext old → hand ≡ hand_next old → next ≡ turned core hand
+    → IsMachine next → work next ≤ work core → IsSchedule next order at taken × KnowsNext next order place places
+turned_still old core next order places place at taken hand same is knows =
+    subst (λ (p : Progress). RunsNext p → hand ≡ hand_next p → next ≡ turned core hand
+    → IsMachine next → work next ≤ work core → IsSchedule next order at taken × KnowsNext next order place places) same
+    (λ runs comes to sound less.
+    let running : is_over core hand ≡ false = ap (is_over core) comes ∙ runs.running in (
+      keeps_schedule core next order at taken (ap (λ (m : Machine). length m.hands) to ∙ hands-turned core hand) sound less is,
+      subst (λ (m : Machine). KnowsNext m order place places) (sym to) (knows_turned core order place places hand running knows),
+    ))
+
+pub tried_still : (old : Progress) (core next : Machine) (order places : List ℕ) (place at taken hand : ℕ) (met : Bool)
+    → (let seen : Progress = record { core = core; left = left_of order place at (length core.hands); taken = taken } in seen ≡ old)
+    → IsSchedule core order at taken → KnowsNext core order place places → Asks old → hand ≡ hand_next old → next ≡ tried core hand met
+    → IsMachine next → work next ≤ work core → IsSchedule next order at taken × KnowsNext next order place places
+tried_still old core next order places place at taken hand met same is knows =
+    subst (λ (p : Progress). Asks p → hand ≡ hand_next p → next ≡ tried core hand met
+    → IsMachine next → work next ≤ work core → IsSchedule next order at taken × KnowsNext next order place places) same
+    (λ asks comes to sound less.
+    let left = left_of order place at (length core.hands) in
+    let running : is_over core hand ≡ false = ap (is_over core) comes ∙ try_runs (hand_at core (get_or left 0 0)).phase (front_asks core left asks).1 in (
+      keeps_schedule core next order at taken (ap (λ (m : Machine). length m.hands) to ∙ length-set core.hands hand (told (hand_at core hand) (verdict met))) sound less is,
+      subst (λ (m : Machine). KnowsNext m order place places) (sym to) (knows_tried core order place places hand met running knows),
+    ))

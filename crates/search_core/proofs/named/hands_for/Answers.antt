@@ -1,7 +1,7 @@
 use Rattle.std.proofs.Common.{arith}
 use Rattle.std.proofs.lemmas.List.{drop_all}
-use Rattle.search_core.proofs.Turns.{greatest_bounds}
-use Rattle.search_core.proofs.order.hands_for.Goals as goal
+use Rattle.search_core.proofs.Left.{greatest_bounds}
+use Rattle.search_core.proofs.named.hands_for.Goals as goal
 
 pub returns-clause-each : goal.returns-clause-each
 returns-clause-each c k d within =
