@@ -7,7 +7,7 @@ use Rattle.map_geometry.specs.Lists.{Lists, nth_node}
 use Rattle.map_geometry.specs.Nodes.{IsChildIn, IsBelow, IsWalk, WalksEnd}
 use Rattle.map_geometry.specs.Level.{IsNodeIn}
 use Rattle.map_geometry.specs.Sides.{side_of_node}
-use Rattle.block_walk.specs.Places.{child_of, subsector_below, subsector_of}
+use Rattle.map_geometry.specs.Places.{child_of, subsector_below, subsector_of}
 
 -- the node at which a way down ends
 abbrev pub end_of : ℕ → List ℕ → ℕ

@@ -1,4 +1,3 @@
-pub mod Places
 pub mod Near
 pub mod Steps
 pub mod Visits
@@ -6,3 +5,4 @@ pub mod Traces
 pub use Rattle.map_geometry.specs.Lists
 pub use Rattle.map_geometry.specs.Blocks
 pub use Rattle.map_geometry.specs.Sides
+pub use Rattle.map_geometry.specs.Places

@@ -2,6 +2,7 @@
 #![tactic(auto)]
 
 mod blocks;
+mod exits;
 mod fault;
 mod lines;
 mod lists;
@@ -12,6 +13,7 @@ mod places;
 mod traces;
 mod walk;
 
+pub use exits::{MARKER, know_exits, sector_of_exit};
 pub use fault::TraceFault;
 pub use lines::lines_in;
 pub use map_geometry::{Block, BlockBox, blocks_of};

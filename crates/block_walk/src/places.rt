@@ -1,6 +1,6 @@
 //! The subsector and the sector of a place.
 ghost use Rattle.std.specs.Prelude.{◌≡◌, ◌<◌, length};
-ghost use Rattle.block_walk.specs.Places.{child_of, subsector_of, sector_of_place};
+ghost use Rattle.map_geometry.specs.Places.{child_of, subsector_of, sector_of_place};
 
 use map_geometry::{Level, Node, node_side};
 
@@ -9,7 +9,7 @@ const SUBSECTOR: u16 = 0x8000;
 
 /// The child of a node on whose side a place is.
 #[inline]
-#[tactic(auto, unfolding(crate::specs::Places::child_of))]
+#[tactic(auto, unfolding(map_geometry::specs::Places::child_of))]
 fn child_at(node: &Node, x: i32, y: i32) -> u16
     ensures { result ≡ child_of node.now x y }
 {
@@ -41,7 +41,7 @@ pub fn subsector_at(level: &Level, x: i32, y: i32) -> u32
 }
 
 /// The sector of a place, in fixed point: that of its subsector.
-#[tactic(auto, unfolding(crate::specs::Places::sector_of_place))]
+#[tactic(auto, unfolding(map_geometry::specs::Places::sector_of_place))]
 pub fn sector_of_place(level: &Level, x: i32, y: i32) -> u32
     ensures place { result ≡ sector_of_place level.now x y }
     ensures there { result < length level.now.sectors }

@@ -4,7 +4,7 @@ use Rattle.fixed_angle.specs.Tables.{Tables}
 use Rattle.map_geometry.specs.Lists.{Lists}
 use Rattle.map_geometry.specs.Blocks.{blocks_in, blocks_of}
 use Rattle.block_walk.specs.Near.{near}
-use Rattle.block_walk.specs.Places.{sector_of_place}
+use Rattle.map_geometry.specs.Places.{sector_of_place}
 use Rattle.cow_world.specs.declared.records.Sector.{Sector}
 use Rattle.cow_world.specs.Flat.{Gridded, parts, sector_at}
 use Rattle.cow_world.specs.Shapes.{shape_of}

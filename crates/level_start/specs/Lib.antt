@@ -9,4 +9,4 @@ pub use Rattle.cow_world.specs.Random
 pub use Rattle.cow_world.specs.Spawned
 pub use Rattle.cow_world.specs.Shapes
 pub use Rattle.light_fx.specs.Begins
-pub use Rattle.block_walk.specs.Places
+pub use Rattle.map_geometry.specs.Places

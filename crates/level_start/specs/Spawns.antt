@@ -7,7 +7,7 @@ use Rattle.map_geometry.specs.declared.records.Spot.{Spot}
 use Rattle.map_geometry.specs.declared.records.Ground.{Ground}
 use Rattle.map_geometry.specs.Lists.{Lists, nth_sector}
 use Rattle.map_geometry.specs.Sides.{less}
-use Rattle.block_walk.specs.Places.{sector_of_place}
+use Rattle.map_geometry.specs.Places.{sector_of_place}
 use Rattle.health_fx.specs.Body.{fresh}
 use Rattle.cow_world.specs.declared.records.Thing.{Thing}
 use Rattle.cow_world.specs.declared.records.Player.{Player}

@@ -7,7 +7,7 @@ use Rattle.map_geometry.specs.Lists.{Lists, nth_line, nth_sector}
 use Rattle.map_geometry.specs.Sides.{less, plus}
 use Rattle.map_geometry.specs.Blocks.{blocks_in, blocks_of, box_around, widened}
 use Rattle.map_geometry.specs.Sectors.{sectors_with_tag}
-use Rattle.block_walk.specs.Places.{sector_of_place}
+use Rattle.map_geometry.specs.Places.{sector_of_place}
 use Rattle.game_trait.specs.declared.shown.Halt.TheVariants.{Stomp}
 use Rattle.cow_world.specs.declared.records.Sector.{Sector}
 use Rattle.cow_world.specs.declared.records.Thing.{Thing}

@@ -4,3 +4,4 @@ pub mod Kept
 pub mod Spans
 pub mod Walked
 pub mod Tagged
+pub mod Told

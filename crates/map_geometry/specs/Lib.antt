@@ -6,5 +6,6 @@ pub mod Conditions
 pub mod Sides
 pub mod Sectors
 pub mod Level
+pub mod Places
 pub use Rattle.fixed_angle.specs.FirstFault
 pub use Rattle.fixed_angle.specs.Fixed

@@ -4,6 +4,7 @@ ghost use Rattle.map_geometry.specs.Lists.{nth_thing, nth_line, nth_side, nth_ve
 ghost use Rattle.map_geometry.specs.Nodes.{WalksEnd};
 ghost use Rattle.map_geometry.specs.Level.{AreParts, lists_of, IsLineIn, IsSubsectorIn, IsNodeIn, IsCellIn};
 
+use crate::known::Known;
 use crate::records::{Ground, Line, Node, Seg, Side, Spot, Subsector, Vertex};
 use crate::sectors::Outline;
 use std::marker::Model;
@@ -37,21 +38,24 @@ pub struct LevelParts {
 }
 
 /// The lists of a level, of which each reference leads somewhere. A number that a reader gives need not be
-/// tested again.
+/// tested again. Beside them the level may know the sectors of some places.
 #[derive(Drop)]
 pub struct Level {
     pub(crate) parts: LevelParts,
+    /// In the order of x and then of y.
+    pub(crate) known: Vec<Known>,
 }
 
 impl Model for Level {
     ghost use Rattle.map_geometry.specs.Lists.{Lists};
-    ghost use Rattle.map_geometry.specs.Level.{AreParts, lists_of};
+    ghost use Rattle.map_geometry.specs.Level.{lists_of};
+    ghost use Rattle.map_geometry.specs.Places.{IsKept};
 
     ghost Value = { Lists };
 
     ghost view = { λ level. lists_of level.parts };
 
-    ghost invariant = { λ level. AreParts level.parts };
+    ghost invariant = { λ level. IsKept level.parts level.known.items };
 }
 
 impl Level {
@@ -60,7 +64,8 @@ impl Level {
         requires { AreParts parts }
         ensures { result ≡ lists_of parts }
     {
-        Level { parts }
+        let known = Vec::new(*parts.things.allocator());
+        Level { parts, known }
     }
 
     pub fn thing_count(&self) -> usize

@@ -4,6 +4,7 @@
 mod blocks;
 mod boxes;
 mod fault;
+mod known;
 mod level;
 mod records;
 mod sectors;
@@ -14,6 +15,7 @@ pub use blocks::{
 };
 pub use boxes::Blocks;
 pub use fault::LevelFault;
+pub use known::Known;
 pub use level::{Level, LevelParts};
 pub use records::{Area, DivLine, Ground, Line, Node, Seg, Side, Slope, Spot, Subsector, Vertex};
 pub use sectors::{Outline, block_box, holding};

@@ -7,7 +7,7 @@ use Rattle.health_fx.specs.declared.hits.Hurt.TheVariants.{Spared, Lived, Died}
 use Rattle.health_fx.specs.Body.{hurt_of, fate_of}
 use Rattle.fixed_angle.specs.Tables.{Tables}
 use Rattle.map_geometry.specs.Lists.{Lists}
-use Rattle.block_walk.specs.Places.{sector_of_place}
+use Rattle.map_geometry.specs.Places.{sector_of_place}
 use Rattle.cow_world.specs.declared.records.Sector.{Sector}
 use Rattle.cow_world.specs.Flat.{Gridded, parts, player_thing, sector_at, set_sector, set_exited}
 use Rattle.cow_world.specs.Random.{draw, drawn}

@@ -4,4 +4,4 @@ use Rattle.map_geometry.proofs.level.Level.subsector.Goals as goal
 
 pub returns-clause-sound : goal.returns-clause-sound
 returns-clause-sound c =
-    subsector_read (lists_of c.self.inside.parts) c.args.self.now c.self.view_is c.self.invariant.level c.args.i c.requires c.index.result.now c.index.ensures
+    subsector_read (lists_of c.self.inside.parts) c.args.self.now c.self.view_is c.self.invariant.parts.level c.args.i c.requires c.index.result.now c.index.ensures

@@ -6,4 +6,4 @@ use Rattle.map_geometry.proofs.level.Level.subsector_count.Goals as goal
 pub returns-clause-some : goal.returns-clause-some
 returns-clause-some c =
     let count : c.len.result ≡ length c.self.inside.parts.subsectors.items = search (rules, c.len.ensures) in
-    rw count (some_subsectors (lists_of c.self.inside.parts) c.self.invariant.level)
+    rw count (some_subsectors (lists_of c.self.inside.parts) c.self.invariant.parts.level)

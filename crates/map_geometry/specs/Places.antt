@@ -1,8 +1,11 @@
--- The subsector and the sector of a place.
-use Rattle.std.specs.Prelude.{ℕ, zero, suc, ◌-◌, ◌==◌, ℤ, nat_lt, length, if◌then◌else◌}
+-- The subsector and the sector of a place, and places whose sector is known.
+use Rattle.std.specs.Prelude.{ℕ, zero, suc, ◌≡◌, ◌-◌, ◌<◌, ◌==◌, ℤ, nat_lt, List, length, if◌then◌else◌, All}
 use Rattle.map_geometry.specs.declared.records.Node.{Node}
+use Rattle.map_geometry.specs.declared.known.Known.{Known}
+use Rattle.map_geometry.specs.declared.level.LevelParts.{LevelParts}
 use Rattle.map_geometry.specs.Lists.{Lists, nth_node, nth_subsector}
 use Rattle.map_geometry.specs.Sides.{side_of_node}
+use Rattle.map_geometry.specs.Level.{AreParts, lists_of}
 
 -- the child of a node on whose side a place is
 unfoldable pub child_of : Node → ℤ → ℤ → ℕ
@@ -26,3 +29,13 @@ subsector_of l x y =
 -- the sector of a place: that of its subsector
 unfoldable pub sector_of_place : Lists → ℤ → ℤ → ℕ
 sector_of_place l x y = (nth_subsector l (subsector_of l x y)).sector
+
+-- what is known of a place is its sector, which is there
+pub record IsKnownIn (l : Lists) (known : Known) : Type 0 where
+  pub place : known.sector ≡ sector_of_place l known.x known.y
+  pub there : known.sector < length l.sectors
+
+-- what a level keeps: its parts, and places with their sectors
+pub record IsKept (own : LevelParts) (places : List Known) : Type 0 where
+  pub parts : AreParts own
+  pub known : All (IsKnownIn (lists_of own)) places
