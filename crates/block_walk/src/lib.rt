@@ -12,6 +12,7 @@ mod places;
 mod traces;
 mod walk;
 
+pub use blocks::block_count;
 pub use fault::TraceFault;
 pub use lines::lines_in;
 pub use map_geometry::{Block, BlockBox, blocks_of};
