@@ -14,7 +14,7 @@ use Rattle.block_walk.proofs.Fresh.{IsKept, Leads, leads_begin, leads_step, lead
 list_at_mark : (words : List ℕ) (at : ℕ) → at < length words → get_or words at 0 ≡ end_mark → block_list words at ≡ []
 list_at_mark words at below mark = rw (drop_more words at 0 below, mark) refl
 
-list_at_line : (words : List ℕ) (at : ℕ) → at < length words → get_or words at 0 ≢ end_mark → block_list words at ≡ get_or words at 0 ∷ block_list words (at + 1)
+pub list_at_line : (words : List ℕ) (at : ℕ) → at < length words → get_or words at 0 ≢ end_mark → block_list words at ≡ get_or words at 0 ∷ block_list words (at + 1)
 list_at_line words at below other = rw (drop_more words at 0 below, ne_eqb (get_or words at 0) end_mark other, one-add) refl
 
 list_at_end : (words : List ℕ) (at : ℕ) → length words ≤ at → block_list words at ≡ []

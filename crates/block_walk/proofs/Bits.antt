@@ -1,5 +1,5 @@
 -- One bit for each line, in words of 64.
-use Rattle.std.proofs.Common.{◌≡◌, ◌≢◌, ℕ, zero, suc, ◌*◌, ◌/◌, ◌%◌, ◌^◌, ◌<◌, ◌⊎◌, Bool, true, false, not, ◌||◌, eqb, List, length, get_or, set, replicate, w64, bit_and, bit_or, refl, sym, ap, ◌∙◌, inl, inr, arith}
+use Rattle.std.proofs.Common.{◌≡◌, ◌≢◌, ℕ, zero, suc, ◌*◌, ◌/◌, ◌%◌, ◌^◌, ◌<◌, ◌≤◌, ◌⊎◌, Bool, true, false, not, ◌||◌, eqb, List, length, get_or, set, replicate, w64, bit_and, bit_or, refl, sym, ap, ◌∙◌, inl, inr, arith}
 use Rattle.std.specs.Int.{bit_at}
 use Rattle.std.proofs.lemmas.Bool.{cases_lt, cases_eq, eq-eqb, ne_eqb}
 use Rattle.std.proofs.lemmas.Nat.{one_shl, pow_pos, mod_below}
@@ -52,10 +52,22 @@ pub bit_unset : (met : List ℕ) (line place : ℕ) → place ≡ line / 64 → 
 unfolding is_marked
 bit_unset met line place at = rw at (bit_test (get_or met (line / 64) 0) (line % 64) (mod_below line 64 (omega arith)))
 
+not_not : (a b : Bool) → a ≡ not b → not a ≡ b
+not_not a true is = rw is refl
+not_not a false is = rw is refl
+
+pub bit_is : (met : List ℕ) (n place : ℕ) → place ≡ n / 64 → not (eqb (bit_and (get_or met place 0) (1 * 2 ^ (n % 64) % 2 ^ 64)) 0) ≡ is_marked met n
+bit_is met n place at = not_not (eqb (bit_and (get_or met place 0) (1 * 2 ^ (n % 64) % 2 ^ 64)) 0) (is_marked met n) (bit_unset met n place at)
+
+-- what has no bit isn't marked
+pub bit_past : (met : List ℕ) (n : ℕ) → length met ≤ n / 64 → is_marked met n ≡ false
+unfolding is_marked
+bit_past met n past = rw (get_or_past {X = ℕ} met (n / 64) 0 past, bit_at-zero (n % 64)) refl
+
 -- words of zeros mark nothing
 pub zeros_clear : (words : ℕ) → IsClear (replicate words 0)
 unfolding is_marked
 zeros_clear words line = elim (cases_lt (line / 64) words) [
   | inl within ↦ rw (get_or-replicate {A = ℕ} words (line / 64) 0 0 within, bit_at-zero (line % 64)) refl
-  | inr past ↦ rw (get_or_past {X = ℕ} (replicate words 0) (line / 64) 0 (omega (arith, length-replicate {A = ℕ} words 0)), bit_at-zero (line % 64)) refl
+  | inr past ↦ bit_past (replicate words 0) line (omega (arith, past, length-replicate {A = ℕ} words 0))
 ]

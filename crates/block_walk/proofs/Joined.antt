@@ -1,6 +1,5 @@
 -- The lists of blocks, joined, and those that were walked.
 use Rattle.std.proofs.Common.{◌≡◌, ℕ, ◌<◌, true, false, ◌||◌, eqb, ltb, cond, List, [], ◌∷◌, ◌++◌, length, Option, Some, None, refl, sym, ap, ◌∙◌, inl, inr}
-use Rattle.std.specs.List.{flat_map}
 use Rattle.std.specs.Option.{option_map_or, option_map}
 use Rattle.std.proofs.lemmas.Bool.{cases_Bool, false≢true}
 use Rattle.std.proofs.lemmas.Bool.Decides.{Decides-eqb}
@@ -50,10 +49,10 @@ near_all_there l lines (block ∷ blocks) = All-append (λ line. line < length l
 pub walked_none : (l : Lists) (met : List ℕ) → AreWalked l met []
 walked_none l met = record { each = λ place line within. absurd (false≢true within) }
 
-was_marked : (old new xs : List ℕ) → Marks old new xs → (n : ℕ) → is_marked old n ≡ true → is_marked new n ≡ true
+pub was_marked : (old new xs : List ℕ) → Marks old new xs → (n : ℕ) → is_marked old n ≡ true → is_marked new n ≡ true
 was_marked old new xs marks n was = marks.each n ∙ rw was refl
 
-now_marked : (old new xs : List ℕ) → Marks old new xs → (n : ℕ) → has xs n ≡ true → is_marked new n ≡ true
+pub now_marked : (old new xs : List ℕ) → Marks old new xs → (n : ℕ) → has xs n ≡ true → is_marked new n ≡ true
 now_marked old new xs marks n within = elim (cases_Bool (is_marked old n)) [
   | inl was ↦ was_marked old new xs marks n was
   | inr new_one ↦ marks.each n ∙ rw (new_one, within) refl

@@ -4,6 +4,8 @@ pub mod Crossings
 pub mod Descent
 pub mod Fresh
 pub mod Joined
+pub mod Passed
+pub mod Counts
 pub mod Order
 pub mod Repeats
 pub mod Slopes

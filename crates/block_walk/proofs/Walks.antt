@@ -1,7 +1,5 @@
 -- A walk along blocks.
-use Rattle.std.proofs.Common.{◌≡◌, ℕ, ◌<◌, length, true, false, ℤ, pos, ◌+ℤ◌, List, [], ◌∷◌, ◌++◌, map, sym, ap, ◌∙◌, suc, ◌-◌, ◌+◌, ◌≤◌, cond, refl, arith}
-use Rattle.std.specs.Prelude.{int_le}
-use Rattle.std.specs.List.{flat_map}
+use Rattle.std.proofs.Common.{◌≡◌, ℕ, ◌<◌, length, true, false, List, [], ◌∷◌, ◌++◌, sym, ap, ◌∙◌, suc, ◌-◌, ◌+◌, ◌≤◌, cond, refl, arith}
 use Rattle.std.proofs.lemmas.List.Elements.{All-nil, All-append}
 use Rattle.map_geometry.specs.Lists.{Lists}
 use Rattle.map_geometry.specs.declared.blocks.Block.{Block}
@@ -11,7 +9,7 @@ use Rattle.block_walk.specs.declared.walk.Walk.{Walk}
 use Rattle.block_walk.specs.Visits.{is_at_end, next_of, visited}
 use Rattle.block_walk.specs.Near.{near_all, first_ones, near}
 use Rattle.block_walk.specs.Steps.{is_marked, IsClear, AreLines, AreWalked, Meets, itself, fresh}
-use Rattle.block_walk.proofs.Fresh.{fresh_first_ones, All-fresh, itself_kept, IsKept, Leads, leads_begin, leads_step, leads_end, leads_many}
+use Rattle.block_walk.proofs.Fresh.{fresh_first_ones, All-fresh, IsKept, Leads, leads_begin, leads_step, leads_end, leads_many}
 use Rattle.block_walk.proofs.Joined.{near_all-append, near_all_cut}
 
 -- of all blocks of a walk the rest is ahead

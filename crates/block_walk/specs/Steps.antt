@@ -1,5 +1,5 @@
 -- What one step of a walk tells the next. No public contract cites these.
-use Rattle.std.specs.Prelude.{◌≡◌, ℕ, ◌*◌, ◌/◌, ◌%◌, ◌<◌, ◌≤◌, min, ◌==◌, Bool, true, false, ◌||◌, List, [], ◌∷◌, ◌++◌, length, slice_index, All, if◌then◌else◌}
+use Rattle.std.specs.Prelude.{◌≡◌, ◌⊎◌, ℕ, ◌*◌, ◌/◌, ◌%◌, ◌<◌, ◌≤◌, min, ◌==◌, Bool, true, false, ◌||◌, List, [], ◌∷◌, ◌++◌, length, slice_index, All, if◌then◌else◌}
 use Rattle.std.specs.Int.{bit_at}
 use Rattle.std.specs.List.{list_any}
 use Rattle.map_geometry.specs.Lists.{Lists}
@@ -48,6 +48,18 @@ AreLines l xs = All (λ line. line < length l.lines) xs
 -- the lines of each list that was walked are marked
 pub record AreWalked (l : Lists) (met walked : List ℕ) : Type 0 where
   pub each : (place line : ℕ) → has walked place ≡ true → has (block_list l.words place) line ≡ true → is_marked met line ≡ true
+
+-- Where the bit of a word of the block map is set, all lines of the list from this word on are marked.
+pub record ArePassed (l : Lists) (met passed : List ℕ) : Type 0 where
+  pub each : (at line : ℕ) → is_marked passed at ≡ true → has (block_list l.words at) line ≡ true → is_marked met line ≡ true
+
+-- the lists from the words before a place on, down to the first word, have no line that the list from the first word doesn't have
+pub record LieIn (words : List ℕ) (first stop : ℕ) : Type 0 where
+  pub each : (at line : ℕ) → first ≤ at → at < stop → has (block_list words at) line ≡ true → has (block_list words first) line ≡ true
+
+-- no number is marked besides those that were and those from one up to another
+pub record MarksOnly (old new : List ℕ) (first stop : ℕ) : Type 0 where
+  pub each : (n : ℕ) → is_marked new n ≡ true → (is_marked old n ≡ true) ⊎ ((first ≤ n) × (n < stop))
 
 -- A walk met the lines of blocks. It has walked lists whose lines are all marked, and the blocks' lines are there.
 pub record Meets {X : Type 0} (keep : List ℕ → List X) (l : Lists) (lists old new : List ℕ) (before after : List X) (blocks : List Block) : Type 0 where

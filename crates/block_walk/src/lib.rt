@@ -13,6 +13,7 @@ mod places;
 mod traces;
 mod walk;
 
+pub use blocks::block_count;
 pub use exits::{MARKER, know_exits, sector_of_exit};
 pub use fault::TraceFault;
 pub use lines::lines_in;

@@ -9,7 +9,7 @@ ghost use Rattle.block_walk.specs.Traces.{off_border, way_of, walk_of, is_long, 
 
 use crate::blocks::list_of;
 use crate::fault::TraceFault;
-use crate::lines::{ALL_WORDS, END_MARK, FEW_LINES, FEW_WORDS, MANY_LINES, MANY_WORDS};
+use crate::lines::{ALL_WORDS, END_MARK, FEW_MARKS, FEW_WORDS, MANY_MARKS, MANY_WORDS};
 use crate::lists::Walked;
 use crate::marks::mark;
 use crate::walk::Walk;
@@ -291,9 +291,9 @@ fn collect_all(
         → 128 < length (crossed level.now way.now (near level.now (visited 64 walk))) }
 {
     let lines = level.line_count();
-    if lines <= FEW_LINES {
+    if lines <= FEW_MARKS {
         collect(level, way, walk, &mut [0; FEW_WORDS], out)
-    } else if lines <= MANY_LINES {
+    } else if lines <= MANY_MARKS {
         collect(level, way, walk, &mut [0; MANY_WORDS], out)
     } else {
         collect(level, way, walk, &mut [0; ALL_WORDS], out)
