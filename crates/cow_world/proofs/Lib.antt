@@ -1,5 +1,6 @@
 pub mod Aside
 mod Forks
+pub mod EndedPlaces
 pub mod Cells
 pub mod Entries
 pub mod Fitting
