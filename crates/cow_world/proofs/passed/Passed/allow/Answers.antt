@@ -1,5 +1,5 @@
-use Rattle.std.proofs.Common.{◌≡◌, false, get_or, sym, ap, ◌∙◌, rules}
-use Rattle.std.specs.Prelude.{not, filter}
+use Rattle.std.proofs.Common.{◌≡◌, false, get_or, sym, ap, ◌∙◌}
+use Rattle.std.specs.Prelude.{not}
 use Rattle.std.proofs.lemmas.List.Elements.{All-filter, All-same}
 use Rattle.std.proofs.lemmas.Option.{get_or_from_slice_get}
 use Rattle.cow_world.specs.declared.records.Thinker.TheVariants.{Ended}
