@@ -1,6 +1,7 @@
 pub mod Aside
 mod Forks
-pub mod EndedPlaces
+mod EndedPlaces
+pub mod Stretches
 pub mod Cells
 pub mod Entries
 pub mod Fitting
