@@ -74,6 +74,7 @@ pub kept-room : (world : Inside) (order : Links) → order.order ≡ world.order
 kept-room world order same blocks kept = record {
   movers = kept.movers;
   thinkers = kept.thinkers;
+  passed = kept.passed;
   player = kept.player;
   acted = kept.acted;
   exited = kept.exited;
@@ -95,6 +96,7 @@ kept-link world i x y to order live at is_x is_y first blocks kept =
     record {
       movers = kept.movers;
       thinkers = kept.thinkers;
+      passed = kept.passed;
       player = rw same kept.player;
       acted = kept.acted;
       exited = kept.exited;

@@ -1,5 +1,7 @@
 pub mod Aside
 mod Forks
+mod EndedPlaces
+pub mod Stretches
 pub mod Cells
 pub mod Entries
 pub mod Fitting

@@ -1,6 +1,7 @@
 pub mod Beside
 pub mod Listed
 pub mod Thinkers
+pub mod Passed
 pub mod Flat
 pub mod Places
 pub mod Shapes

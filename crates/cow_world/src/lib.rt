@@ -15,6 +15,7 @@ mod links;
 mod lists;
 mod nearby;
 mod numbers;
+mod passed;
 mod random;
 mod records;
 mod sectors;
@@ -28,6 +29,7 @@ pub use gaps::Gap;
 pub use grid::Grid;
 pub use kinds::{DoorKind, FloorKind, GlowKind, LightKind, Plane, PlatKind};
 pub use link_order::{FEW_THINGS, Things};
+pub use passed::Stretch;
 pub use records::{DoorPhase, LiftPhase, Player, Sector, Thing, Thinker};
 pub use shapes::{
     HANGS, MONSTER, NOT_LINKED, PLAYER_SHAPE, SHOOTABLE, SOLID, SPECIAL, Shape, has_bit,

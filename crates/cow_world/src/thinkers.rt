@@ -1,10 +1,11 @@
 //! Thinkers.
-ghost use Rattle.std.specs.Prelude.{◌≡◌, ◌⊎◌, ◌+◌, ◌<◌, ◌≤◌, length, IfSome, Some, IsTrue, OnOk, OnErr};
+ghost use Rattle.std.specs.Prelude.{◌≡◌, ◌⊎◌, ℕ, ◌+◌, ◌<◌, ◌≤◌, length, IfSome, Some, IsTrue, OnOk, OnErr};
 ghost use Rattle.cow_world.specs.Thinkers.{sector_of, moved_by, is_lift, lift_count};
 ghost use Rattle.cow_world.specs.Flat.{IsLive, parts, thinker_at, push_thinker, set_thinker};
 ghost use Rattle.cow_world.specs.Ends.{unnamed, end_mover};
 ghost use Rattle.cow_world.specs.Fits.{KeepsFit, Serves, GoesOn};
 
+use crate::passed::Stretch;
 use crate::records::{Sector, Thinker};
 use crate::world::World;
 use doom_edge::{Memory, Steps};
@@ -26,6 +27,20 @@ impl World {
         ensures sector { IfSome (sector_of result) (λ sector. sector < length (parts self.now).sectors) }
     {
         self.lists.thinker(i as usize)
+    }
+
+    /// The next places from one on whose thinkers may be live: those before them have ended. It is empty exactly where no
+    /// more may be. It takes about the logarithm of the number of live thinkers.
+    pub fn stretch_from(&self, from: u32) -> Stretch
+        requires live { IsLive self.now }
+        requires there { from ≤ length (parts self.now).thinkers }
+        ensures from { from ≤ result.start }
+        ensures order { result.start ≤ result.end }
+        ensures there { result.end ≤ length (parts self.now).thinkers }
+        ensures some { result.start < length (parts self.now).thinkers → result.start < result.end }
+        ensures ended { (i : ℕ) → from ≤ i → i < result.start → thinker_at self.now i ≡ Thinker.Ended }
+    {
+        self.passed.next(&self.lists, from)
     }
 
     /// Adds a thinker behind the others. The sector that it moves doesn't name it yet.
@@ -62,9 +77,12 @@ impl World {
         ensures least { steps.old.pages ≤ steps.new.pages }
         ensures most { steps.new.pages ≤ steps.old.pages + 34 }
     {
+        self.passed.allow(&self.lists, i, &to);
         self.lists.set_thinker(i as usize, to, steps)?;
+        self.passed.note(i, &to);
         Ok(())
     }
+
     /// Ends the mover at a place: the sector that it moved names no mover any more, and `Ended` is left at the place.
     /// After `Memory` the world is as before, or the sector alone names no mover any more.
     pub fn end_mover(&mut self, mover: u32, sector: u32, steps: &mut Steps) -> Result<(), Memory>
