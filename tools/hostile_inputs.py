@@ -134,6 +134,17 @@ def giant(size):
     return level.put("BLOCKMAP", h.shared_map(255, rows, [switch, *range(4, 4 + size)], -32000, -64 * rows))
 
 
+def giant_overlapped(size):
+    """The same where the blocks' lists begin one word after the other, in as many rows of blocks, and end with one
+    word. The last of their lines are those of the room and the switch."""
+    level = h.walled(h.Level(), 1, x=-15990).add("THINGS", h.thing(-15990, 0, GIANT))
+    level, switch = with_switch(level, 60, open_behind=True)
+    columns, rows = 255, min(size, GRID)
+    starts = [4 + columns * rows + i for i in range(columns * rows)]
+    words = [4] * (columns * rows) + [switch, h.END_MARK]
+    return level.put("BLOCKMAP", h.block_map(columns, rows, starts, words, -32000, -64 * rows))
+
+
 def overlapping(size):
     """Blocks whose lists begin one word after the other and all end with the last word."""
     rows = size // GRID
@@ -181,6 +192,11 @@ def ordered(size):
     """Searches of one sequence by two hands, under an order in which the second comes last."""
     files = level_files(h.Level().wad(), script=b"brute 1\nwant exit\ngo\n" * (size // 40))
     return {**files, "o.order": b"0 " * (size // 2 - 1) + b"1 "}
+
+
+def interleaved(size):
+    """The same under an order in which the second hand has the first turn and the last one."""
+    return {**ordered(size), "o.order": b"1 " + b"0 " * (size // 2 - 2) + b"1 "}
 
 
 def long_demo(size):
@@ -269,6 +285,11 @@ def tagged_across(size):
 
 def searches(size):
     return level_files(h.Level().wad(), script=b"brute 1\ngo\n" * size)
+
+
+def searches_of_all(size):
+    """So many searches of one sequence in a level with as many sectors, lines and things."""
+    return level_files(many_of_all(size, 0).wad(), script=b"brute 1\ngo\n" * size)
 
 
 def deep_searches(size):
