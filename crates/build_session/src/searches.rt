@@ -7,10 +7,11 @@ ghost use Rattle.brute_run.specs.Costs.{search_cost};
 ghost use Rattle.build_session.specs.Searches.{CanSearch, turns_of};
 
 use brute_ranges::Space;
-use brute_run::{first_match, simulate};
+use brute_run::{first_match, simulate_by};
 use brute_targets::Wants;
 use doom_edge::{Gate, Memory, Steps};
 use game_trait::Game;
+use search_core::Turns;
 use std::alloc::Global;
 use std::thread::Threads;
 
@@ -19,8 +20,8 @@ use std::thread::Threads;
 pub enum Searcher<'a> {
     /// So many workers, 1 to 64, on threads of their own.
     Workers(u32),
-    /// Hands that take their turns under an order of hands below 64, on one thread. It tells how many turns they took.
-    Hands(&'a [u8]),
+    /// Hands that take their turns under an order that was read, on one thread. It tells how many turns they took.
+    Hands(&'a Turns),
 }
 
 /// What a search came to.
@@ -76,8 +77,8 @@ where
             let first = first_match(alloc, rt, game, kept, space, wants, workers, gate, steps)?;
             Ok(Searched { first, turns: None })
         }
-        Searcher::Hands(order) => {
-            let done = simulate(alloc, game, kept, space, wants, order, steps)?;
+        Searcher::Hands(turns) => {
+            let done = simulate_by(alloc, game, kept, space, wants, turns, steps)?;
             Ok(Searched {
                 first: done.first,
                 turns: Some(done.turns),

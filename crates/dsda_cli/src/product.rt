@@ -174,6 +174,17 @@ impl From<lmp_codec::Memory> for Stop {
     }
 }
 
+impl From<search_core::Memory> for Stop {
+    ghost use Rattle.std.specs.Prelude.{◌≡◌};
+    ghost use Rattle.dsda_cli.specs.declared.product.Stop.TheVariants.{Memory as StopMemory};
+
+    ghost from_gives = { λ _ stop. stop ≡ StopMemory };
+
+    fn from(_: search_core::Memory) -> Self {
+        Stop::Memory
+    }
+}
+
 /// The end of the work where the command of a line is refused.
 pub fn stop_of_edit(line: u32, fault: EditFault) -> Stop
     ensures { result ≡ stop_of_edit line fault }

@@ -1,5 +1,5 @@
 //! Sessions: `build` and `sim`.
-ghost use Rattle.std.specs.Prelude.{◌≡◌, ◌≤◌, ◌<◌, true, length, All, Ok, IfOk};
+ghost use Rattle.std.specs.Prelude.{◌≡◌, ◌≤◌, true, length, Ok, IfOk};
 ghost use Rattle.doom_edge.specs.Costs.{Cost};
 ghost use Rattle.lmp_codec.specs.Header.{is_long};
 ghost use Rattle.lmp_codec.specs.Tics.{HoldsTurns};
@@ -27,6 +27,7 @@ use fixed_angle::PlayTables;
 use lmp_codec::{Demo, Header, Tic, write_demo};
 use map_geometry::Level;
 use play_step::Doom;
+use search_core::Turns;
 use std::alloc::Global;
 use std::marker::Model;
 use std::thread::Threads;
@@ -83,12 +84,12 @@ fn read_files(
     })
 }
 
-/// The hands of an order file.
-fn read_hands(alloc: Global, order: &[u8]) -> Result<Vec<u8>, Stop>
-    ensures hands { Gives (λ hands. hands.items) result (exactly (as_order (order_of order.now))) }
-    ensures within { IfOk result (λ hands. All (λ hand. hand < 64) hands.items) }
+/// The turns that an order file names.
+fn read_turns(alloc: Global, order: &[u8]) -> Result<Turns, Stop>
+    ensures turns { Gives (λ turns. turns) result (exactly (as_order (order_of order.now))) }
 {
-    Ok(read_order(alloc, order)?)
+    let hands = read_order(alloc, order)?;
+    Ok(Turns::new(alloc, &hands)?)
 }
 
 /// The game on a level, if it can be started.
@@ -224,6 +225,6 @@ pub fn sim<T: Gate + Sync, R: Threads + Sync>(
     ensures { Takes with_cost result (simulated wad.items tables.now demo.now script.now order.now) steps.old.tics steps.new.tics }
 {
     let read = read_files(alloc, wad, tables, demo, script)?;
-    let hands = read_hands(alloc, order)?;
-    session(alloc, rt, gate, &Searcher::Hands(&hands), read, steps)
+    let turns = read_turns(alloc, order)?;
+    session(alloc, rt, gate, &Searcher::Hands(&turns), read, steps)
 }

@@ -3,6 +3,7 @@ use build_edits::EditFault;
 use build_script::read_script;
 use build_session::{Searcher, Session, SessionFault};
 use doom_edge::{NoGate, Steps};
+use search_core::Turns;
 use std::alloc::Global;
 use std::process::Abort;
 use std::test::Fail;
@@ -20,12 +21,13 @@ fn expect_session(
 ) -> Result<(), Fail> {
     let script = read_script(alloc, text, true, false)?;
     let mut session = Session::begin(alloc, Rooms::new(), Vec::new(alloc))?;
+    let turns = Turns::new(alloc, b"")?;
     let mut steps = Steps::new();
     let ended = session.carry_out(
         alloc,
         rt,
         &NoGate,
-        &Searcher::Hands(b""),
+        &Searcher::Hands(&turns),
         &script,
         &mut steps,
     );

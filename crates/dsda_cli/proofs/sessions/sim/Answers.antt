@@ -6,10 +6,10 @@ pub returns-in_err-read : goal.returns-in_err-read
 unfolding simulated
 returns-in_err-read g c = stopped_takes c.in_err-read.ensures.read c.from_residual.ensures.1
 
-pub returns-in_err-hands : goal.returns-in_err-hands
+pub returns-in_err-turns : goal.returns-in_err-turns
 unfolding simulated
-returns-in_err-hands g c = further_takes c.in_ok-read.ensures.read (stopped_takes c.in_err-hands.ensures.hands c.from_residual-in_err-hands.ensures.1)
+returns-in_err-turns g c = further_takes c.in_ok-read.ensures.read (stopped_takes c.in_err-turns.ensures.turns c.from_residual-in_err-turns.ensures.1)
 
 pub returns : goal.returns
 unfolding simulated
-returns g c = further_takes c.in_ok-read.ensures.read (further_takes c.in_ok-hands.ensures.hands (rw c.deref.ensures.value at c.session.ensures))
+returns g c = further_takes c.in_ok-read.ensures.read (further_takes c.in_ok-turns.ensures.turns c.session.ensures)
