@@ -4,12 +4,9 @@ ghost use Rattle.cow_world.specs.Flat.{parts};
 ghost use Rattle.cow_world.specs.Fits.{FitsLevel};
 ghost use Rattle.line_specials.specs.Teleports.{is_marker, sector_under, exit_of, exit_with, is_before};
 
-use block_walk::sector_of_place;
+use block_walk::{MARKER, sector_of_exit};
 use cow_world::World;
 use map_geometry::Level;
-
-/// The number of the things to which teleporters lead.
-const MARKER: u16 = 14;
 
 /// An exit: its sector and its thing.
 pub type Exit = (u32, u32);
@@ -45,7 +42,7 @@ fn exit_with(level: &Level, world: &World, tag: i16, exit: Option<Exit>, thing: 
     if !spot.present || spot.kind != MARKER {
         return exit;
     }
-    let sector = sector_of_place(level, spot.x, spot.y);
+    let sector = sector_of_exit(level, spot.x, spot.y);
     if !level.has_tag(sector as usize, tag) || is_before(exit, sector) {
         return exit;
     }
