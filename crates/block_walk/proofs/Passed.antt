@@ -1,32 +1,15 @@
 -- Which words of the block map were passed.
-use Rattle.std.proofs.Common.{◌≡◌, ℕ, ◌+◌, ◌<◌, ◌≤◌, true, false, ◌||◌, eqb, List, [], ◌∷◌, ◌++◌, length, get_or, ◌≢◌, refl, sym, ap, ◌∙◌, inl, inr, arith, All}
-use Rattle.std.proofs.lemmas.Bool.{cases_Bool, cases_eq, false≢true, ne_eqb}
+use Rattle.std.proofs.Common.{◌≡◌, ℕ, ◌+◌, ◌<◌, ◌≤◌, true, eqb, List, [], ◌∷◌, ◌++◌, length, get_or, ◌≢◌, refl, sym, ap, ◌∙◌, inl, inr, arith}
+use Rattle.std.proofs.lemmas.Bool.{cases_Bool, cases_eq}
 use Rattle.std.proofs.lemmas.List.{append-nil}
 use Rattle.map_geometry.specs.Lists.{Lists}
 use Rattle.map_geometry.specs.Blocks.{block_list, end_mark}
-use Rattle.block_walk.specs.Steps.{is_marked, has, IsClear, Marks, ArePassed, LieIn, MarksOnly, Adds}
+use Rattle.block_walk.specs.Steps.{is_marked, has, Marks, ArePassed, LieIn, MarksOnly, Adds}
 use Rattle.block_walk.proofs.Fresh.{IsKept, Leads, leads_step, leads_end, fresh_all_seen, Marks_all_seen}
 use Rattle.block_walk.proofs.Joined.{was_marked, now_marked}
-use Rattle.block_walk.proofs.Ahead.{IsOnList, list_at_line, on_list_begin, on_list_step}
+use Rattle.block_walk.proofs.Ahead.{IsOnList, list_at_line, on_list_step}
 
 -- ---- marks in a range
-
-pub range_begin : (marks : List ℕ) (first : ℕ) → MarksOnly marks marks first first
-range_begin marks first = record { each = λ n set. inl set }
-
-pub range_step : (old met new : List ℕ) (first at : ℕ) → first ≤ at → MarksOnly old met first at → ((n : ℕ) → is_marked new n ≡ (is_marked met n || eqb at n)) → MarksOnly old new first (at + 1)
-range_step old met new first at from only marks = record {
-  each = λ n set. elim (cases_Bool (is_marked met n)) [
-    | inl before ↦ elim (only.each n before) [
-      | inl was ↦ inl was
-      | inr within ↦ inr (within.0, omega (arith, within.1))
-    ]
-    | inr not_before ↦ elim (cases_eq at n) [
-      | inl same ↦ inr (omega (arith, from, same), omega (arith, same))
-      | inr other ↦ absurd (let none : is_marked new n ≡ false = marks n ∙ rw (not_before, ne_eqb at n other) refl in false≢true (sym none ∙ set))
-    ]
-  ];
-}
 
 pub range_end : (old met : List ℕ) (first at stop : ℕ) → (first < at → at ≤ stop) → MarksOnly old met first at → MarksOnly old met first stop
 range_end old met first at stop before only = record {
@@ -37,9 +20,6 @@ range_end old met first at stop before only = record {
 }
 
 -- ---- words that were passed
-
-pub passed_none : (l : Lists) (met passed : List ℕ) → IsClear passed → ArePassed l met passed
-passed_none l met passed clear = record { each = λ at line set. absurd (false≢true (sym (clear at) ∙ set)) }
 
 pub kept_passed : (l : Lists) (old new xs passed : List ℕ) → Marks old new xs → ArePassed l old passed → ArePassed l new passed
 kept_passed l old new xs passed marks are = record { each = λ at line set on. was_marked old new xs marks line (are.each at line set on) }
@@ -54,19 +34,6 @@ list_passed l old new passed passed' place stop marks lie are only = record {
 }
 
 -- ---- a walk along a list
-
-pub lie_begin : (words : List ℕ) (place : ℕ) → LieIn words place (place + 1)
-lie_begin words place = record {
-  each = λ at line from below on.
-      let same : at ≡ place = omega (arith, from, below) in
-      rw (← same) on;
-}
-
-pub lie_none : (words : List ℕ) (place : ℕ) → LieIn words place place
-lie_none words place = record { each = λ at line from below on. absurd (omega (arith, from, below)) }
-
-pub lie_before : (words : List ℕ) (place at : ℕ) → LieIn words place (at + 1) → LieIn words place at
-lie_before words place at lie = record { each = λ n line from below on. lie.each n line from (omega (arith, below)) on }
 
 behind_first : (x : ℕ) (xs ys : List ℕ) (n : ℕ) → ys ≡ x ∷ xs → has xs n ≡ true → has ys n ≡ true
 behind_first x xs ys n is within = rw is (elim (cases_Bool (eqb x n)) [ inl same ↦ rw same refl | inr other ↦ rw other within ])
@@ -100,10 +67,6 @@ pub record IsAtWord {X : Type 0} (keep : List ℕ → List X) (l : Lists) (place
   pub passed : ArePassed l met bits
   pub from : place ≤ at
   pub lie : LieIn l.words place (at + 1)
-
-pub at_word_begin : {X : Type 0} (keep : List ℕ → List X) (l : Lists) (place : ℕ) (met bits : List ℕ) (out : List X) → All (λ entry. entry < length l.lines) (block_list l.words place) → ArePassed l met bits
-    → IsAtWord keep l place place met met bits out out
-at_word_begin keep l place met bits out entries are = record { on = on_list_begin keep l place met out entries; passed = are; from = omega arith; lie = lie_begin l.words place }
 
 pub at_word_step : {X : Type 0} (keep : List ℕ → List X) → IsKept keep → (l : Lists) (place at line : ℕ) (old met new bits : List ℕ) (before out next : List X) → IsAtWord keep l place at old met bits before out
     → at < length l.words → line ≡ get_or l.words at 0 → line ≢ end_mark → Adds keep met new out next (line ∷ []) → IsAtWord keep l place (at + 1) old new bits before next

@@ -53,7 +53,7 @@ pub record AreWalked (l : Lists) (met walked : List ℕ) : Type 0 where
 pub record ArePassed (l : Lists) (met passed : List ℕ) : Type 0 where
   pub each : (at line : ℕ) → is_marked passed at ≡ true → has (block_list l.words at) line ≡ true → is_marked met line ≡ true
 
--- the lists from the words before a place on, down to the first word, have no line that the list from the first word doesn't have
+-- From no word of a range on has a list a line that the list from the first word doesn't have.
 pub record LieIn (words : List ℕ) (first stop : ℕ) : Type 0 where
   pub each : (at line : ℕ) → first ≤ at → at < stop → has (block_list words at) line ≡ true → has (block_list words first) line ≡ true
 

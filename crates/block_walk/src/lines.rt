@@ -30,8 +30,8 @@ fn add_line(line: u16, met: &mut [u64], out: &mut Vec<u32>) -> Result<(), Memory
     Ok(())
 }
 
-/// Appends the lines of a list that were not met, up to its end or to a word that was passed before. The words before
-/// the place that it answers are passed now.
+/// Appends the lines of a list that were not met, up to its end or to a word that was passed before: from there on all
+/// lines were met. The words from the list's place up to the one that it answers are passed now.
 fn add_list(
     level: &Level,
     place: u32,

@@ -176,13 +176,17 @@ module _ (tests : Tests) where
     ]
   ]
 
+  -- the lines without repeats give what they give with them
+  pub near_gives : (level : Lists) (blocks : List Block) (c : Checked) → fold step (goes c) (near level blocks) ≡ fold step (goes c) (near_all level blocks)
+  near_gives level blocks c = fold_near step (takes_once tests) level blocks (goes c)
+
   -- the lines of a run of blocks
   pub lines_are : (level : Lists) (blocks : List Block) (c : Checked) → c.clear ≡ true → c.listed ≡ [] → fold step (goes c) (near_all level blocks) ≡ found_from tests c (near level blocks)
   unfolding IsFresh
   lines_are level blocks c clear none =
       let few : length c.listed ≤ 8 = omega (arith, ap length none) in
       let fresh : IsFresh c.listed (near level blocks) = λ n has. rw none refl in
-      sym (fold_near step (takes_once tests) level blocks (goes c)) ∙ by_list (near level blocks) c clear few (once_first_ones (near_all level blocks)) fresh
+      sym (near_gives level blocks c) ∙ by_list (near level blocks) c clear few (once_first_ones (near_all level blocks)) fresh
 
   -- ---- a loop over lines: what is left, from what was found so far, gives what the whole gives
 

@@ -10,10 +10,15 @@ ghost use Rattle.clip_check.specs.Checks.{beside, between, ground_of, lines_foun
 use crate::listed::{Listed, MOST_LISTED};
 use crate::things::box_of;
 use crate::trial::{Checked, Trial};
-use block_walk::{near_all, sector_of_place};
+use block_walk::{NearLines, block_count, lines_in, near_all, sector_of_place};
 use cow_world::{Gap, PlayFault, Sector, World};
 use game_trait::Halt;
 use map_geometry::{Area, Level, Line, blocks_of, box_side};
+use std::alloc::Global;
+
+/// A box on no more blocks than so many meets the lines of each block, and takes no memory. On more, the lines are listed
+/// once first, since the blocks may share what they list.
+const FEW_BLOCKS: u64 = 64;
 
 /// The flag of a line that blocks everything.
 const BLOCKS: u16 = 1;
@@ -21,15 +26,21 @@ const BLOCKS: u16 = 1;
 /// The flag of a line that blocks everything but the player.
 const BLOCKS_MONSTERS: u16 = 2;
 
-/// What the sector of the place and the lines that the box lies on leave of it. A ninth listed line halts.
-pub fn find_between(level: &Level, world: &World, trial: &Trial) -> Result<Checked, PlayFault>
+/// What the sector of the place and the lines that the box lies on leave of it. A ninth listed line halts. It takes no
+/// memory unless the box lies on more than 64 blocks of the grid.
+pub fn find_between(
+    alloc: Global,
+    level: &Level,
+    world: &World,
+    trial: &Trial,
+) -> Result<Checked, PlayFault>
     requires fits { FitsLevel level.now world.now }
     ensures found { Plays result world.now (beside world.now (lines_found level.now world.now trial.now)) }
     ensures there { IfOk result (λ found. All (λ line. line < length level.now.lines) found.listed) }
 {
     let area = box_of(trial);
     let mut found = between(true, &ground(level, world, trial));
-    meet_lines(level, world, trial, &area, &mut found)?;
+    meet_lines(alloc, level, world, trial, &area, &mut found)?;
     Ok(found)
 }
 
@@ -56,6 +67,7 @@ pub fn between(clear: bool, sector: &Sector) -> Checked
 
 // Meets the lines in the blocks of a box, up to the first that blocks.
 fn meet_lines(
+    alloc: Global,
     level: &Level,
     world: &World,
     trial: &Trial,
@@ -67,11 +79,59 @@ fn meet_lines(
     ensures found { Moves result found.new (fold (found_more (line_tests level.now world.now trial.now.player area.now)) (goes found.old) (near_all level.now (blocks_in (blocks_of level.now area.now)))) }
     ensures there { OnOk result (All (λ line. line < length level.now.lines) found.new.listed) }
 {
-    for line in near_all(level, &blocks_of(level, area)) {
+    let blocks = blocks_of(level, area);
+    if block_count(level, &blocks) <= FEW_BLOCKS {
+        return meet_near(level, world, trial, area, near_all(level, &blocks), found);
+    }
+    let mut lines = Vec::new(alloc);
+    lines_in(level, area, &mut lines)?;
+    meet_each(level, world, trial, area, &lines, found)
+}
+
+// Meets lines, which may come again, up to the first that blocks.
+fn meet_near(
+    level: &Level,
+    world: &World,
+    trial: &Trial,
+    area: &Area,
+    lines: NearLines,
+    found: &mut Checked,
+) -> Result<(), PlayFault>
+    requires fits { FitsLevel level.now world.now }
+    requires lines { All (λ line. line < length level.now.lines) lines }
+    requires there { All (λ line. line < length level.now.lines) found.old.listed }
+    ensures found { Moves result found.new (fold (found_more (line_tests level.now world.now trial.now.player area.now)) (goes found.old) lines.entry) }
+    ensures there { OnOk result (All (λ line. line < length level.now.lines) found.new.listed) }
+{
+    for line in lines {
         if !found.clear {
             return Ok(());
         }
         meet_line(level, world, trial, area, line, found)?;
+    }
+    Ok(())
+}
+
+// Meets the lines of a list, up to the first that blocks.
+fn meet_each(
+    level: &Level,
+    world: &World,
+    trial: &Trial,
+    area: &Area,
+    lines: &[u32],
+    found: &mut Checked,
+) -> Result<(), PlayFault>
+    requires fits { FitsLevel level.now world.now }
+    requires lines { All (λ line. line < length level.now.lines) lines.now }
+    requires there { All (λ line. line < length level.now.lines) found.old.listed }
+    ensures found { Moves result found.new (fold (found_more (line_tests level.now world.now trial.now.player area.now)) (goes found.old) lines.now) }
+    ensures there { OnOk result (All (λ line. line < length level.now.lines) found.new.listed) }
+{
+    for line in lines {
+        if !found.clear {
+            return Ok(());
+        }
+        meet_line(level, world, trial, area, *line, found)?;
     }
     Ok(())
 }

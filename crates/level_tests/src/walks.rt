@@ -136,10 +136,11 @@ fn subsectors(rt: HostRuntime) -> Result<(), Fail> {
     expect_subsectors(&rt, rt.alloc(), &cut_room(rt.alloc())?, 3)
 }
 
-/// Three columns and two rows from (-128, -128) with four lists: one with its leading 0, one with repeats, one of
-/// a leading 0 alone, one without it. Two are shared.
-const BLOCKS: &str =
-    "65408 65408 3 2 10 14 10 20 22 14 0 1 5 65535 0 5 0 2 2 65535 0 65535 7 6 65535";
+/// Five columns and two rows from (-128, -128) with seven lists: one with its leading 0, one with repeats, one of a
+/// leading 0 alone, one without it, and one within which two others begin. Three are shared.
+const BLOCKS: &str = "\
+65408 65408 5 2 14 18 14 30 31 24 26 18 29 29 \
+0 1 5 65535 0 5 0 2 2 65535 0 65535 7 6 65535 4 3 7 65535";
 
 /// The level with these blocks.
 fn blocks_level(alloc: Global) -> Result<Level, Fail> {
@@ -189,12 +190,12 @@ const LINES: &str = "\
 -100 20 -100 20 0 1 5 2 7 6
 20 150 -100 20 0 5 2 7 6 1
 -300 -200 0 0
--300 600 -300 600 0 1 5 2 7 6
+-300 600 -300 600 0 1 5 2 7 6 3 4
 50 -50 0 0
 -128 -1 -128 -1 0 1 5
 -129 0 -129 0 0 1 5 2 7 6
 0 127 0 127 7 6
-200 300 -20 20 0 1 5 2";
+200 300 -20 20 0 1 5 2 3 7 4";
 
 #[test]
 fn lines_of_boxes(rt: HostRuntime) -> Result<(), Fail> {
@@ -211,7 +212,7 @@ fn lines_of_boxes(rt: HostRuntime) -> Result<(), Fail> {
 const REPEATED: &str = "\
 -100 -50 -100 -50 0 1 5
 -100 20 -100 20 0 1 5 0 0 5 0 2 2 7 6
--30000 30000 -30000 30000 0 1 5 0 0 5 0 2 2 7 6 0 1 5 0 5 0 2 2
+-30000 30000 -30000 30000 0 1 5 0 0 5 0 2 2 7 6 0 1 5 0 5 0 2 2 3 7 4 3 7 7 4 3 7
 50 -50 0 0";
 
 #[test]
