@@ -2,14 +2,15 @@
 ghost use Rattle.std.specs.Prelude.{◌≡◌, ◌<◌, ◌≤◌, length, OnOk};
 ghost use Rattle.cow_world.specs.Flat.{parts};
 ghost use Rattle.cow_world.specs.Fits.{Fits};
-ghost use Rattle.cow_world.specs.Outcome.{Moves};
+ghost use Rattle.cow_world.specs.Outcome.{Moves, each_from};
+ghost use Rattle.cow_world.specs.Passed.{places};
 ghost use Rattle.light_fx.specs.Lights.{run_light_of};
 ghost use Rattle.mover_run.specs.Runs.{run_thinker_of, run_thinkers_of};
 
 use crate::doors::{MovingDoor, run_door};
 use crate::floors::{MovingFloor, run_floor};
 use crate::lifts::{MovingLift, run_lift};
-use cow_world::{PlayFault, Thinker, World};
+use cow_world::{PlayFault, Stretch, Thinker, World};
 use doom_edge::{Memory, Steps};
 use fixed_angle::PlayTables;
 use light_fx::run_light;
@@ -32,7 +33,35 @@ pub fn run_thinkers(
     ensures tics { steps.new.tics ≡ steps.old.tics }
     ensures pages { steps.old.pages ≤ steps.new.pages }
 {
-    for i in 0..world.thinker_count() {
+    let all = world.thinker_count();
+    let mut from = 0;
+    while from < all {
+        let live = world.stretch_from(from);
+        run_stretch(alloc, level, tables, world, &live, steps)?;
+        from = live.end;
+    }
+    Ok(())
+}
+
+// One tic of the thinkers at the places of a stretch.
+fn run_stretch(
+    alloc: Global,
+    level: &Level,
+    tables: &PlayTables,
+    world: &mut World,
+    stretch: &Stretch,
+    steps: &mut Steps,
+) -> Result<(), PlayFault>
+    requires fits { Fits level.now tables.now world.old }
+    requires there { stretch.now.end ≤ length (parts world.old).thinkers }
+    ensures moves { Moves result world.new (each_from (run_thinker_of level.now tables.now) world.old (places stretch.now)) }
+    ensures fits { OnOk result (Fits level.now tables.now world.new) }
+    ensures many { OnOk result (length (parts world.new).thinkers ≡ length (parts world.old).thinkers) }
+
+    ensures tics { steps.new.tics ≡ steps.old.tics }
+    ensures pages { steps.old.pages ≤ steps.new.pages }
+{
+    for i in stretch.start..stretch.end {
         run_thinker(alloc, level, tables, world, i, steps)?;
     }
     Ok(())

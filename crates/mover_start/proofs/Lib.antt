@@ -1,3 +1,4 @@
 pub mod Named
 pub mod Tagwise
 pub mod Turns
+pub mod LiftsLeft

@@ -1,5 +1,5 @@
 // Lifts that lines start by tag.
-ghost use Rattle.std.specs.Prelude.{◌≡◌, ◌<◌, ◌≤◌, length, OnOk};
+ghost use Rattle.std.specs.Prelude.{◌≡◌, ◌+◌, ◌<◌, ◌≤◌, length, drop, OnOk};
 ghost use Rattle.cow_world.specs.Flat.{IsLive, parts};
 ghost use Rattle.cow_world.specs.Fits.{Fits, FitsLevel, KeepsFit};
 ghost use Rattle.cow_world.specs.Outcome.{Moves, Plays};
@@ -9,7 +9,7 @@ ghost use Rattle.mover_start.specs.Lifts.{lift_low, lift_high, lift_wait, random
 
 use crate::begins::{begin, number_of};
 use crate::stops::turn_lifts;
-use cow_world::{LiftPhase, PlatKind, PlayFault, Sector, Thinker, World};
+use cow_world::{LiftPhase, PlatKind, PlayFault, Sector, Stretch, Thinker, World};
 use doom_edge::{Memory, Steps};
 use fixed_angle::PlayTables;
 use game_trait::Halt;
@@ -182,8 +182,27 @@ fn lift_count(level: &Level, world: &World) -> u32
 {
     // The level is there for the contract alone.
     let _level = level;
+    let all = world.thinker_count();
     let mut count = 0;
-    for place in 0..world.thinker_count() {
+    let mut from = 0;
+    while from < all {
+        let live = world.stretch_from(from);
+        count += lifts_in(world, &live);
+        from = live.end;
+    }
+    count
+}
+
+// How many of them there are in a stretch.
+fn lifts_in(world: &World, stretch: &Stretch) -> u32
+    requires live { IsLive world.now }
+    requires order { stretch.now.start ≤ stretch.now.end }
+    requires there { stretch.now.end ≤ length (parts world.now).thinkers }
+    ensures lifts { result + lift_count (drop stretch.now.end (parts world.now).thinkers) ≡ lift_count (drop stretch.now.start (parts world.now).thinkers) }
+    ensures few { stretch.now.start + result ≤ stretch.now.end }
+{
+    let mut count = 0;
+    for place in stretch.start..stretch.end {
         if is_lift(&world.thinker(place)) {
             count += 1;
         }

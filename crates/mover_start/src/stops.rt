@@ -1,11 +1,12 @@
 // Lifts that lines stop, and that perpetual ones wake.
-ghost use Rattle.std.specs.Prelude.{◌≡◌, ◌<◌, ◌≤◌, length, IfOk, OnOk};
+ghost use Rattle.std.specs.Prelude.{◌≡◌, ◌<◌, ◌≤◌, length, fold, IfOk, OnOk};
 ghost use Rattle.cow_world.specs.Flat.{parts};
 ghost use Rattle.cow_world.specs.Fits.{FitsLevel, KeepsFit};
 ghost use Rattle.cow_world.specs.Outcome.{Plays};
+ghost use Rattle.cow_world.specs.Passed.{places};
 ghost use Rattle.mover_start.specs.Lifts.{lift_turned, lifts_turned, stop_plat_of};
 
-use cow_world::{PlayFault, Thinker, World};
+use cow_world::{PlayFault, Stretch, Thinker, World};
 use doom_edge::{Memory, Steps};
 use map_geometry::Level;
 
@@ -47,8 +48,37 @@ pub fn turn_lifts(
     ensures tics { steps.new.tics ≡ steps.old.tics }
     ensures pages { steps.old.pages ≤ steps.new.pages }
 {
+    let all = world.thinker_count();
     let mut turned = false;
-    for place in 0..world.thinker_count() {
+    let mut from = 0;
+    while from < all {
+        let live = world.stretch_from(from);
+        turned = turn_stretch(level, world, tag, to, &live, turned, steps)?;
+        from = live.end;
+    }
+    Ok(turned)
+}
+
+// Stops or wakes those in a stretch. `before` says whether one was turned before them.
+fn turn_stretch(
+    level: &Level,
+    world: &mut World,
+    tag: i16,
+    to: bool,
+    stretch: &Stretch,
+    before: bool,
+    steps: &mut Steps,
+) -> Result<bool, Memory>
+    requires fits { FitsLevel level.now world.old }
+    requires there { stretch.now.end ≤ length (parts world.old).thinkers }
+    ensures ok { IfOk result (λ turned. (world.new, turned) ≡ fold (lift_turned level.now tag to) (world.old, before) (places stretch.now)) }
+    ensures fits { OnOk result (KeepsFit world.old world.new) }
+
+    ensures tics { steps.new.tics ≡ steps.old.tics }
+    ensures pages { steps.old.pages ≤ steps.new.pages }
+{
+    let mut turned = before;
+    for place in stretch.start..stretch.end {
         turned = turn_lift(level, world, tag, to, place, turned, steps)?;
     }
     Ok(turned)

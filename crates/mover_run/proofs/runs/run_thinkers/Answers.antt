@@ -1,40 +1,47 @@
-use Rattle.std.proofs.Common.{◌≡◌, Err, ◌<◌, ◌+◌, ◌-◌, ℕ, length, refl, ◌∙◌, rules, arith}
-use Rattle.std.specs.List.{range_with_len}
+use Rattle.std.proofs.Common.{◌≡◌, Err, ◌≤◌, ℕ, length, refl, ◌∙◌, rules, arith}
 use Rattle.cow_world.specs.Flat.{parts}
 use Rattle.clip_check.proofs.Halts.{moves_on}
 use Rattle.mover_run.specs.Runs.{run_thinker_of}
-use Rattle.mover_run.proofs.Each.{each_next, each_halts, range_first}
-use Rattle.mover_run.proofs.Running.{runs_first}
+use Rattle.mover_run.proofs.Each.{stretch_next, stretch_halts}
+use Rattle.mover_run.proofs.Running.{runs_first, runs_idle}
 use Rattle.mover_run.proofs.runs.run_thinkers.Goals as goal
 
-pub loop-i-init : goal.loop-i-init
-loop-i-init c = record {
+pub loop-from-init : goal.loop-from-init
+loop-from-init c = record {
   left = runs_first c.args.level.now c.args.tables.now c.args.world.now;
   many = refl;
+  within = omega arith;
   fits = c.requires.fits;
   tics = refl;
   pages = omega arith;
 }
 
-pub loop-i-preserved : goal.loop-i-preserved
-loop-i-preserved c =
+pub loop-from-preserved : goal.loop-from-preserved
+loop-from-preserved c =
     let count : ℕ = length (parts c.args.world.now).thinkers in
-    let below : c.loop-i.i < count = omega (arith, c.loop-i.invariant.many) in
+    let live = c.stretch_from-live in
+    let within : live.result.end ≤ count = omega (arith, live.ensures.there, c.loop-from.invariant.many) in
     record {
-      left = each_next (run_thinker_of c.args.level.now c.args.tables.now) _ c.loop-i.world c.run_thinker.new.world c.loop-i.i (range_with_len c.loop-i.i (count - c.loop-i.i)) (range_with_len (c.loop-i.i + 1) (count - (c.loop-i.i + 1)))
-          c.loop-i.invariant.left (range_first c.loop-i.i count below) c.in_ok-run_thinker.ensures.moves;
-      many = c.in_ok-run_thinker.ensures.many ∙ c.loop-i.invariant.many;
-      fits = c.in_ok-run_thinker.ensures.fits;
-      tics = c.run_thinker.ensures.tics ∙ c.loop-i.invariant.tics;
-      pages = omega (arith, c.run_thinker.ensures.pages, c.loop-i.invariant.pages);
+      left = stretch_next (run_thinker_of c.args.level.now c.args.tables.now) _ c.loop-from.world c.run_stretch.new.world c.loop-from.from count live.result
+          live.ensures.from live.ensures.order within
+          (λ i above below. runs_idle c.args.level.now c.args.tables.now c.loop-from.world i (live.ensures.ended i above below))
+          c.loop-from.invariant.left c.in_ok-run_stretch.ensures.moves;
+      many = c.in_ok-run_stretch.ensures.many ∙ c.loop-from.invariant.many;
+      within = within;
+      fits = c.in_ok-run_stretch.ensures.fits;
+      tics = c.run_stretch.ensures.tics ∙ c.loop-from.invariant.tics;
+      pages = omega (arith, c.run_stretch.ensures.pages, c.loop-from.invariant.pages);
     }
 
-pub returns-in_err-run_thinker-clause-moves : goal.returns-in_err-run_thinker-clause-moves
-returns-in_err-run_thinker-clause-moves c =
+pub returns-in_err-run_stretch-clause-moves : goal.returns-in_err-run_stretch-clause-moves
+returns-in_err-run_stretch-clause-moves c =
     let count : ℕ = length (parts c.args.world.now).thinkers in
-    let below : c.loop-i.i < count = omega (arith, c.loop-i.invariant.many) in
-    let fails : c.from_residual.result ≡ Err c.in_err-run_thinker.field-0.0 = search rules in
-    rw fails (moves_on (Unit {0}) (Unit {0}) c.in_err-run_thinker.field-0.0 c.run_thinker.new.world c.run_thinker.new.world _ _
-    (each_halts (run_thinker_of c.args.level.now c.args.tables.now) _ c.loop-i.world c.loop-i.i (range_with_len c.loop-i.i (count - c.loop-i.i)) (range_with_len (c.loop-i.i + 1) (count - (c.loop-i.i + 1)))
-    c.loop-i.invariant.left (range_first c.loop-i.i count below))
-    c.in_err-run_thinker.ensures.moves)
+    let live = c.stretch_from-live in
+    let within : live.result.end ≤ count = omega (arith, live.ensures.there, c.loop-from.invariant.many) in
+    let fails : c.from_residual.result ≡ Err c.in_err-run_stretch.field-0.0 = search rules in
+    rw fails (moves_on (Unit {0}) (Unit {0}) c.in_err-run_stretch.field-0.0 c.run_stretch.new.world c.run_stretch.new.world _ _
+    (stretch_halts (run_thinker_of c.args.level.now c.args.tables.now) _ c.loop-from.world c.loop-from.from count live.result
+    live.ensures.from live.ensures.order within
+    (λ i above below. runs_idle c.args.level.now c.args.tables.now c.loop-from.world i (live.ensures.ended i above below))
+    c.loop-from.invariant.left)
+    c.in_err-run_stretch.ensures.moves)
