@@ -1,5 +1,5 @@
 -- The turns that are left of an order and of a round.
-use Rattle.std.proofs.Common.{zero, suc, add-one, ◌≡◌, ℕ, ◌+◌, ◌-◌, ◌<◌, ◌≤◌, Bool, true, false, Option, List, [], ◌∷◌, ◌++◌, length, get_or, drop, refl, sym, ◌∙◌, ap, subst, inl, inr, arith, drop-cons, length-set}
+use Rattle.std.proofs.Common.{zero, suc, add-one, ◌≡◌, ℕ, ◌+◌, ◌-◌, ◌*◌, ◌^◌, ◌<◌, ◌≤◌, Bool, true, false, Option, List, [], ◌∷◌, ◌++◌, length, get_or, drop, refl, sym, ◌∙◌, ap, subst, inl, inr, arith, drop-cons, length-set}
 use Rattle.std.specs.Prelude.{All}
 use Rattle.std.proofs.lemmas.Bool.{cases_lt}
 use Rattle.std.proofs.lemmas.List.{drop_all, length-replicate}
@@ -14,7 +14,7 @@ use Rattle.search_core.specs.Order.{numbers_from, is_over, events, greatest, han
 use Rattle.search_core.specs.Trail.{HaveTried, TriesNow}
 use Rattle.search_core.specs.Dues.{left_to}
 use Rattle.search_core.specs.Keeps.{KeepsOn, Carries}
-use Rattle.search_core.specs.Places.{KnowsNext}
+use Rattle.search_core.specs.Places.{ComesNext, KnowsNext}
 use Rattle.search_core.specs.Schedules.{left_of, IsSchedule, RunsNext}
 use Rattle.search_core.proofs.Steps.{keeps-turned, fits-tried, covers-tried, over-first, try_phase}
 use Rattle.search_core.proofs.Kept.{hands-turned, keeps_on-turned, keeps_on-same, keeps_on-both, have_tried-tried, left_to-tried}
@@ -169,6 +169,25 @@ new_follows count block hands core order items meets opened asked copied sound e
     let same : events (is_in meets) core items ≡ events_of count block meets order =
     ap (events (is_in meets) core) copied ∙ ap (λ (m : Machine). events (is_in meets) m order) opened ∙ ap (λ n. events (is_in meets) (opening count block n) order) asked in
     record { fits = fits; turns = omega (arith, round, same) }
+
+pub new_schedule : (count block hands : ℕ) (core : Machine) (order next : List ℕ) → core ≡ opening count block hands → hands ≡ hands_of order
+    → IsMachine core → work core ≡ 4 * count + hands → count ≤ 2 ^ 40 → hands ≤ 64 → All (λ i. i < hands) order
+    → length next ≡ hands_of order → ((hand : ℕ) → hand < hands_of order → ComesNext order hand 0 (get_or next hand 0))
+    → IsSchedule core order 0 0 × KnowsNext core order 0 next
+new_schedule count block hands core order next opened asked sound left bounded few each long comes =
+    let many : length core.hands ≡ hands = ap (λ (m : Machine). length m.hands) opened ∙ length-replicate hands (fresh count block) in (
+      record {
+        sound = sound;
+        hands = λ k d inside. omega (arith, each k d inside, many);
+        round = omega arith;
+        few = omega arith;
+      },
+      record {
+        long = omega (arith, many);
+        within = omega arith;
+        comes = λ hand there _. comes hand (omega (arith, many));
+      },
+    )
 
 -- the hand that comes next, where the order has come to its end
 pub round_runs : (core : Machine) (order : List ℕ) (place at taken : ℕ) → length order ≤ place → at < length core.hands → is_over core at ≡ false
