@@ -6,6 +6,8 @@ mod around;
 #[cfg(test)]
 mod bodies;
 #[cfg(test)]
+mod ended;
+#[cfg(test)]
 mod levels;
 #[cfg(test)]
 mod lights;
