@@ -2,9 +2,13 @@
 
 use crate::maps::{level, level_with_blocks};
 use crate::rows::{at, behind, expect, int, numbers};
-use block_walk::{TraceFault, blocks_of, lines_in, near_all, subsector_at, trace};
+use block_walk::{
+    MARKER, TraceFault, blocks_of, know_exits, lines_in, near_all, subsector_at, trace,
+};
 use map_geometry::{Area, Level, line_side};
-use sample_inputs::{MapPlan, PlanLine, PlanNode, picket_room, single_room, two_sectors};
+use sample_inputs::{
+    MapPlan, PlanLine, PlanNode, PlanThing, picket_room, single_room, two_sectors,
+};
 use std::alloc::{AllocError, Global};
 use std::process::Abort;
 use std::test::Fail;
@@ -134,6 +138,48 @@ fn expect_subsectors(
 fn subsectors(rt: HostRuntime) -> Result<(), Fail> {
     expect_subsectors(&rt, rt.alloc(), &strip(rt.alloc())?, 2)?;
     expect_subsectors(&rt, rt.alloc(), &cut_room(rt.alloc())?, 3)
+}
+
+fn push_exit(plan: &mut MapPlan, x: i16, y: i16) -> Result<(), AllocError> {
+    plan.things.push(PlanThing {
+        number: MARKER,
+        x,
+        y,
+        angle: 0,
+        options: 7,
+    })?;
+    Ok(())
+}
+
+/// The same two sectors with an exit in each, which the level knows.
+fn strip_with_exits(alloc: Global) -> Result<Level, Fail> {
+    let mut plan = two_sectors(alloc, 1, (0, 128, 0), (0, 128, 0), 0, 0)?;
+    push_exit(&mut plan, 5, 3)?;
+    push_exit(&mut plan, -5, 3)?;
+    let mut strip = level(alloc, &plan)?;
+    know_exits(alloc, &mut strip)?;
+    Ok(strip)
+}
+
+/// A place in map units, and the sector that the level knows; -1 where it was told none.
+const KNOWN: &str = "\
+-5 3 0
+5 3 1
+5 4 -1
+0 0 -1";
+
+#[test]
+fn sectors_of_exits(rt: HostRuntime) -> Result<(), Fail> {
+    let level = strip_with_exits(rt.alloc())?;
+    for line in KNOWN.lines() {
+        let row = numbers(rt.alloc(), line)?;
+        let found = match level.known_sector(units(&row, 0), units(&row, 1)) {
+            Some(sector) => i64::from(sector),
+            None => -1,
+        };
+        expect(&rt, line, &[found], behind(&row, 2));
+    }
+    Ok(())
 }
 
 /// Three columns and two rows from (-128, -128) with four lists: one with its leading 0, one with repeats, one of

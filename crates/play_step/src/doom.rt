@@ -9,6 +9,7 @@ ghost use Rattle.play_step.specs.Rules.{HasSector, ground_of, vitals_of};
 
 use crate::shown::{read_live, show_live};
 use crate::step::step_live;
+use block_walk::know_exits;
 use cow_world::World;
 use doom_edge::{Memory, Steps};
 use fixed_angle::PlayTables;
@@ -46,7 +47,7 @@ impl Doom {
     /// Why the level can't be started: see [`start`].
     pub fn new(
         alloc: Global,
-        level: Level,
+        mut level: Level,
         tables: PlayTables,
         header: Header,
     ) -> Result<Doom, StartFault>
@@ -55,6 +56,7 @@ impl Doom {
         ensures fault { IfErr result (Blames (start_fault level tables header)) }
     {
         start(alloc, &level, &tables, &header)?;
+        know_exits(alloc, &mut level)?;
         Ok(Doom {
             level,
             tables,
