@@ -160,12 +160,17 @@ def switched(level_tics):
     return level_files(level.wad(), h.demo(USE * (level_tics // 2)), b"seek %d\nshow\n" % (level_tics // 2 * 2))
 
 
-def teleports(size):
+def teleports(exits, tics=200):
     """So many exits at one place under a chain of nodes, and a teleporter that is crossed again and again."""
-    level = chain_of_nodes(size, markers=1)
+    level = chain_of_nodes(exits, markers=1)
     level.add("VERTEXES", h.vertex(20, 64) + h.vertex(20, -64)).add("LINEDEFS", h.line(4, 5, 0, 0, special=97))
     level.put("BLOCKMAP", h.shared_map(16, 16, range(5)))
-    return level_files(level.wad(), script=b"put 50 0 0 0\nrepeat 199\nshow\n")
+    return level_files(level.wad(), script=b"put 50 0 0 0\nrepeat %d\nshow\n" % (tics - 1))
+
+
+def long_teleports(size):
+    """The same for so many tics, with a thousand exits."""
+    return teleports(1000, size)
 
 
 def play(level, forward=0, count=35):
