@@ -11,6 +11,16 @@ TOP = os.path.dirname(os.path.dirname(os.path.realpath(__file__)))
 PROGRAM = os.environ.get("DSDA_BUILD") or os.path.join(TOP, "dsda_build")
 
 
+def built():
+    """The built program itself, for tools that time it, copy it or load something into it; `run` runs it from then on."""
+    global PROGRAM
+    if "DSDA_BUILD" not in os.environ:
+        run("--version")  # builds it where it is missing
+        PROGRAM = os.path.join(TOP, "crates", "dsda_build", "out", "dsda_build")
+    PROGRAM = os.path.realpath(PROGRAM)
+    return PROGRAM
+
+
 def run(*words):
     """A run of the program on these words, with its status and both outputs."""
     return subprocess.run([PROGRAM, *words], capture_output=True, text=True, check=False)
