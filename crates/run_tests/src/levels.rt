@@ -22,9 +22,6 @@ const TWO_SECTORS_REPORT: &[u8] =
 
 const E1M1: &[u8; 8] = b"E1M1\0\0\0\0";
 
-/// How many bytes a table file with one kind has.
-const TABLES_LEN: usize = 49_436;
-
 /// Runs `level` over these files.
 fn reported(
     rt: &(impl Threads + Sync),
@@ -316,74 +313,4 @@ fn faulty_nodes_and_tables_are_refused(rt: HostRuntime) -> Result<(), Fail> {
             ),
         ],
     )
-}
-
-/// Asserts that the WAD is refused wherever it is cut.
-fn expect_cut_maps(
-    rt: &(impl Abort + Threads + Sync),
-    alloc: Global,
-    maps: &[u8],
-) -> Result<(), Fail> {
-    let tables = play_tables(alloc)?;
-    let empty = demo_of_zeros(alloc, 0)?;
-    for len in 0..maps.len() {
-        let left = reported(rt, alloc, &maps[..len], &tables, &empty)?;
-        let line: &[u8] = if len < 12 {
-            b"refused: wad head\n"
-        } else {
-            b"refused: wad directory\n"
-        };
-        assert_eq!(rt; left.note.bytes(), line);
-    }
-    Ok(())
-}
-
-/// Asserts that the tables are refused where they are cut: in their head, behind it, and before the last byte.
-fn expect_cut_tables(
-    rt: &(impl Abort + Threads + Sync),
-    alloc: Global,
-    tables: &[u8],
-) -> Result<(), Fail> {
-    let maps = room(alloc)?;
-    let empty = demo_of_zeros(alloc, 0)?;
-    for (len, line) in [
-        (0, b"refused: tables head\n".as_slice()),
-        (7, b"refused: tables head\n".as_slice()),
-        (8, b"refused: tables length\n".as_slice()),
-        (TABLES_LEN - 1, b"refused: tables length\n".as_slice()),
-    ] {
-        let cut = tables.get(..len).unwrap_or(&[]);
-        let left = reported(rt, alloc, &maps, cut, &empty)?;
-        assert_eq!(rt; left.note.bytes(), line, "{len}");
-    }
-    Ok(())
-}
-
-/// Asserts that the demo is refused wherever it is cut.
-fn expect_cut_demos(
-    rt: &(impl Abort + Threads + Sync),
-    alloc: Global,
-    demo: &[u8],
-) -> Result<(), Fail> {
-    let maps = room(alloc)?;
-    let tables = play_tables(alloc)?;
-    for len in 0..demo.len() {
-        let left = reported(rt, alloc, &maps, &tables, &demo[..len])?;
-        let line = format!(in alloc; "refused: demo cut at {len}\n")?;
-        assert_eq!(rt; left.note.bytes(), line.as_bytes());
-    }
-    Ok(())
-}
-
-#[test]
-fn each_file_may_be_cut_anywhere(rt: HostRuntime) -> Result<(), Fail> {
-    let alloc = rt.alloc();
-    let maps = room(alloc)?;
-    let tables = play_tables(alloc)?;
-    let played = demo_of_zeros(alloc, 3)?;
-    assert_eq!(rt; tables.len(), TABLES_LEN);
-    expect_reports(&rt, alloc, &[(&maps, &tables, &played, 0, ROOM_REPORT)])?;
-    expect_cut_maps(&rt, alloc, &maps)?;
-    expect_cut_tables(&rt, alloc, &tables)?;
-    expect_cut_demos(&rt, alloc, &played)
 }
