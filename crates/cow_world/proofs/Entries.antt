@@ -74,7 +74,6 @@ pub kept-room : (world : Inside) (order : Links) → order.order ≡ world.order
 kept-room world order same blocks kept = record {
   movers = kept.movers;
   thinkers = kept.thinkers;
-  passed = kept.passed;
   player = kept.player;
   acted = kept.acted;
   exited = kept.exited;
@@ -96,7 +95,6 @@ kept-link world i x y to order live at is_x is_y first blocks kept =
     record {
       movers = kept.movers;
       thinkers = kept.thinkers;
-      passed = kept.passed;
       player = rw same kept.player;
       acted = kept.acted;
       exited = kept.exited;

@@ -37,12 +37,11 @@ copied_items world seen old new view kept lists =
 -- a world of the same fields, each with its meaning, keeps the same
 pub kept_again : (world other : Inside) → other.lists ≡ world.lists
     → other.order.order ≡ world.order.order → other.order.blocks ≡ world.order.blocks
-    → other.passed.stretches.items ≡ world.passed.stretches.items → other.acted.items ≡ world.acted.items → other.player ≡ world.player → other.exited ≡ world.exited
+    → other.acted.items ≡ world.acted.items → other.player ≡ world.player → other.exited ≡ world.exited
     → other.halted ≡ world.halted → other.grid ≡ world.grid → IsKept world → IsKept other
-kept_again world other lists order blocks passed acted player exited halted grid kept = record {
+kept_again world other lists order blocks acted player exited halted grid kept = record {
   movers = rw lists kept.movers;
   thinkers = rw lists kept.thinkers;
-  passed = rw (lists, passed) kept.passed;
   player = rw (player, lists) kept.player;
   acted = rw (lists, acted) kept.acted;
   exited = rw exited kept.exited;

@@ -1,6 +1,6 @@
 pub mod Aside
 mod Forks
-mod EndedPlaces
+mod KeptPlaces
 pub mod Stretches
 pub mod Cells
 pub mod Entries

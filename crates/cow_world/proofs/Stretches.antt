@@ -1,8 +1,8 @@
 -- The places that are left from one on: those before a stretch, its own, and those behind it.
 use Rattle.std.proofs.Common.{◌≡◌, ℕ, zero, suc, ◌+◌, ◌-◌, ◌≤◌, ◌∷◌, ◌++◌, ap, ◌∙◌, refl, arith, zero-add, add-zero}
 use Rattle.std.specs.List.{range_with_len}
-use Rattle.cow_world.specs.declared.passed.Stretch.{Stretch}
-use Rattle.cow_world.specs.Passed.{places}
+use Rattle.cow_world.specs.declared.kept_thinkers.Stretch.{Stretch}
+use Rattle.cow_world.specs.Stretches.{places}
 
 range_append : (a n m : ℕ) → range_with_len a (n + m) ≡ range_with_len a n ++ range_with_len (a + n) m
 range_append a zero m = rw (zero-add, add-zero) refl

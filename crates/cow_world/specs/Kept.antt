@@ -8,7 +8,6 @@ use Rattle.cow_world.specs.declared.records.Thinker.{Thinker}
 use Rattle.cow_world.specs.declared.grid.Grid.{Grid}
 use Rattle.cow_world.specs.declared.world.World.TheInside.{Inside}
 use Rattle.cow_world.specs.Thinkers.{sector_of}
-use Rattle.cow_world.specs.Passed.{IsPassed}
 use Rattle.cow_world.specs.Flat.{Live, Flat, live, halted, Gridded, no_thing}
 use Rattle.cow_world.specs.Places.{cell_under}
 
@@ -44,13 +43,11 @@ pub record IsEntry (things : List Thing) (grid : Grid) (entry : Linked) : Type 0
   pub there : entry.thing < length things
   pub block : entry.block ≡ cell_under grid (slice_index_or things entry.thing no_thing).x (slice_index_or things entry.thing no_thing).y
 
--- Each place that the world keeps is in range (the player stands for thing 0 where there is none yet), the thinkers that
--- it passes over have ended, and its counts fit their type. A halted world has no pages, and nothing
--- is said of its link order.
+-- Each place that the world keeps is in range (the player stands for thing 0 where there is none yet), and its counts fit
+-- their type. A halted world has no pages, and nothing is said of its link order.
 pub record IsKept (world : Inside) : Type 0 where
   pub movers : All (λ (sector : Sector). IfSome sector.mover (λ mover. mover < length world.lists.thinkers)) world.lists.sectors
   pub thinkers : All (λ thinker. IfSome (sector_of thinker) (λ sector. sector < length world.lists.sectors)) world.lists.thinkers
-  pub passed : All (IsPassed world.lists.thinkers) world.passed.stretches.items
   pub player : world.player.thing ≤ length world.lists.things - 1
   pub acted : All (λ line. line < length world.lists.specials) world.acted.items
   pub exited : world.exited ≤ 2

@@ -1,7 +1,8 @@
 pub mod Beside
 pub mod Listed
 pub mod Thinkers
-pub mod Passed
+pub mod KeptThinkers
+pub mod Stretches
 pub mod Flat
 pub mod Places
 pub mod Shapes

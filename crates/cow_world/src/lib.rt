@@ -10,12 +10,12 @@ mod around;
 mod fault;
 mod gaps;
 mod grid;
+mod kept_thinkers;
 mod kinds;
 mod links;
 mod lists;
 mod nearby;
 mod numbers;
-mod passed;
 mod random;
 mod records;
 mod sectors;
@@ -29,7 +29,7 @@ pub use gaps::Gap;
 pub use grid::Grid;
 pub use kinds::{DoorKind, FloorKind, GlowKind, LightKind, Plane, PlatKind};
 pub use link_order::{FEW_THINGS, Things};
-pub use passed::Stretch;
+pub use kept_thinkers::Stretch;
 pub use records::{DoorPhase, LiftPhase, Player, Sector, Thing, Thinker};
 pub use shapes::{
     HANGS, MONSTER, NOT_LINKED, PLAYER_SHAPE, SHOOTABLE, SOLID, SPECIAL, Shape, has_bit,

@@ -1,8 +1,11 @@
 //! The lists of a world, over bases that stand together.
-ghost use Rattle.std.specs.Prelude.{◌≡◌, ◌+◌, ◌*◌, ◌<◌, ◌≤◌, ◌^◌, [], ◌∷◌, ◌++◌, Some, length, slice_get, slice_set, OnOk, OnErr, IfOk};
+ghost use Rattle.std.specs.Prelude.{◌≡◌, ℕ, ◌+◌, ◌*◌, ◌<◌, ◌≤◌, ◌^◌, [], ◌∷◌, ◌++◌, Some, length, slice_get, slice_index_or, slice_set, OnOk, OnErr, IfOk};
 ghost use Rattle.cow_world.specs.Beside.{IsBeside};
-ghost use Rattle.cow_world.specs.Listed.{bases_are, no_lists, pages_of, items_in};
+ghost use Rattle.cow_world.specs.declared.records.Thinker.TheVariants.{Ended};
+ghost use Rattle.cow_world.specs.KeptThinkers.{IsKeptThinkers};
+ghost use Rattle.cow_world.specs.Listed.{lists_of, no_lists, pages_of, items_in};
 
+use crate::kept_thinkers::{KeptThinkers, Placed, Stretch};
 use crate::records::{Sector, Thing, Thinker};
 use doom_edge::{Memory, Steps};
 use page_store::Pages;
@@ -19,7 +22,7 @@ pub(crate) struct Bases {
     sectors: Vec<Sector>,
     specials: Vec<u16>,
     things: Vec<Thing>,
-    thinkers: Vec<Thinker>,
+    thinkers: Vec<Placed>,
 }
 
 // The sectors, the line specials, the things and the thinkers of a world. One `Arc` holds all that they were made of, so
@@ -33,7 +36,7 @@ pub(crate) struct Lists {
     sectors: Pages<Sector>,
     specials: Pages<u16>,
     things: Pages<Thing>,
-    thinkers: Pages<Thinker>,
+    thinkers: KeptThinkers,
     place: u32,
     own: Thing,
 }
@@ -75,20 +78,26 @@ impl Lists {
             things: Vec::new(alloc),
             thinkers: Vec::new(alloc),
         };
-        Lists::of(alloc, bases, NO_PLACE)
+        Lists::of(alloc, bases, KeptThinkers::none(alloc), NO_PLACE)
     }
 
-    // The lists that these bases are, with the thing at a place beside the others, if there is one.
-    fn of(alloc: Global, bases: Bases, place: u32) -> Result<Lists, Memory>
-        requires { length bases.things.items < 2 ^ 32 }
-        ensures { IfOk result (λ lists. lists ≡ bases_are bases) }
+    // The lists that these bases are, and thinkers over theirs, with the thing at a place beside the others, if there is one.
+    fn of(
+        alloc: Global,
+        bases: Bases,
+        thinkers: KeptThinkers,
+        place: u32,
+    ) -> Result<Lists, Memory>
+        requires few { length bases.things.items < 2 ^ 32 }
+        requires thinkers { IsKeptThinkers bases.thinkers.items thinkers }
+        ensures { IfOk result (λ lists. lists ≡ lists_of bases thinkers) }
     {
         let (place, own) = beside(&bases.things, place);
         Ok(Lists {
             sectors: Pages::over(alloc, &bases.sectors),
             specials: Pages::over(alloc, &bases.specials),
             things: Pages::over(alloc, &bases.things),
-            thinkers: Pages::over(alloc, &bases.thinkers),
+            thinkers,
             bases: Arc::new(alloc, bases)?,
             place,
             own,
@@ -145,15 +154,16 @@ impl Lists {
         ensures least { steps.old.pages ≤ steps.new.pages }
         ensures most { steps.new.pages ≤ steps.old.pages + items_in self.old }
     {
-        let bases = self.copied(steps)?;
-        *self = Lists::of(alloc, bases, place)?;
+        let (bases, thinkers) = self.copied(steps)?;
+        *self = Lists::of(alloc, bases, thinkers, place)?;
         Ok(())
     }
 
-    // All items, each copied by one step.
-    fn copied(&self, steps: &mut Steps) -> Result<Bases, Memory>
-        ensures same { IfOk result (λ bases. bases_are bases ≡ self.now) }
-        ensures few { IfOk result (λ bases. length bases.things.items < 2 ^ 32) }
+    // All items, each copied by one step, and the thinkers over them.
+    fn copied(&self, steps: &mut Steps) -> Result<(Bases, KeptThinkers), Memory>
+        ensures same { IfOk result (λ own. lists_of own.0 own.1 ≡ self.now) }
+        ensures few { IfOk result (λ own. length own.0.things.items < 2 ^ 32) }
+        ensures thinkers { IfOk result (λ own. IsKeptThinkers own.0.thinkers.items own.1) }
         ensures tics { steps.new.tics ≡ steps.old.tics }
         ensures least { steps.old.pages ≤ steps.new.pages }
         ensures most { steps.new.pages ≤ steps.old.pages + items_in self.now }
@@ -161,14 +171,15 @@ impl Lists {
         let sectors = self.sectors.copied(&self.bases.sectors, steps)?;
         let specials = self.specials.copied(&self.bases.specials, steps)?;
         let mut things = self.things.copied(&self.bases.things, steps)?;
-        let thinkers = self.thinkers.copied(&self.bases.thinkers, steps)?;
+        let (entries, thinkers) = self.thinkers.own(&self.bases.thinkers, steps)?;
         put_back(&mut things, self.place, self.own);
-        Ok(Bases {
+        let bases = Bases {
             sectors,
             specials,
             things,
-            thinkers,
-        })
+            thinkers: entries,
+        };
+        Ok((bases, thinkers))
     }
 
     pub(crate) fn sector_count(&self) -> usize
@@ -267,37 +278,38 @@ impl Lists {
         Ok(())
     }
 
-    pub(crate) fn thinker_count(&self) -> usize
+    pub(crate) fn thinker_count(&self) -> u32
         ensures { result ≡ length self.now.thinkers }
     {
         self.thinkers.len()
     }
 
-    pub(crate) fn thinker(&self, i: usize) -> Thinker
-        requires { i < length self.now.thinkers }
-        ensures { slice_get self.now.thinkers i ≡ Some result }
+    pub(crate) fn thinker(&self, place: u32) -> Thinker
+        requires { place < length self.now.thinkers }
+        ensures { slice_get self.now.thinkers place ≡ Some result }
     {
-        self.thinkers.get(&self.bases.thinkers, i)
+        self.thinkers.get(&self.bases.thinkers, place)
     }
 
     pub(crate) fn set_thinker(
         &mut self,
-        i: usize,
+        place: u32,
         to: Thinker,
         steps: &mut Steps,
     ) -> Result<(), Memory>
-        requires { i < length self.old.thinkers }
-        ensures ok { OnOk result (self.new ≡ record self.old { thinkers = slice_set self.old.thinkers i to }) }
+        requires { place < length self.old.thinkers }
+        ensures ok { OnOk result (self.new ≡ record self.old { thinkers = slice_set self.old.thinkers place to }) }
         ensures err { OnErr result (self.new ≡ self.old) }
 
         ensures tics { steps.new.tics ≡ steps.old.tics }
         ensures least { steps.old.pages ≤ steps.new.pages }
         ensures most { steps.new.pages ≤ steps.old.pages + 34 }
     {
-        self.thinkers.set(&self.bases.thinkers, i, to, steps)
+        self.thinkers.set(&self.bases.thinkers, place, to, steps)
     }
 
     pub(crate) fn push_thinker(&mut self, thinker: Thinker, steps: &mut Steps) -> Result<(), Memory>
+        requires { length self.old.thinkers + 1 < 2 ^ 32 }
         ensures ok { OnOk result (self.new ≡ record self.old { thinkers = self.old.thinkers ++ thinker ∷ [] }) }
         ensures err { OnErr result (self.new ≡ self.old) }
 
@@ -306,6 +318,29 @@ impl Lists {
         ensures most { steps.new.pages ≤ steps.old.pages + 34 }
     {
         self.thinkers.push(&self.bases.thinkers, thinker, steps)
+    }
+
+    // The next places from one on whose thinkers may be running: those before them have ended.
+    pub(crate) fn stretch_from(&self, from: u32) -> Stretch
+        requires { from ≤ length self.now.thinkers }
+        ensures from { from ≤ result.start }
+        ensures order { result.start ≤ result.end }
+        ensures there { result.end ≤ length self.now.thinkers }
+        ensures some { result.start < length self.now.thinkers → result.start < result.end }
+        ensures ended { (i : ℕ) → from ≤ i → i < result.start → slice_index_or self.now.thinkers i Ended ≡ Ended }
+    {
+        self.thinkers.stretch_from(&self.bases.thinkers, from)
+    }
+
+    // Leaves out the thinkers that have ended, once they are many. On `Memory` all is as before.
+    pub(crate) fn forget_ended(&mut self, steps: &mut Steps) -> Result<(), Memory>
+        ensures kept { self.new ≡ self.old }
+
+        ensures tics { steps.new.tics ≡ steps.old.tics }
+        ensures least { steps.old.pages ≤ steps.new.pages }
+        ensures most { steps.new.pages ≤ steps.old.pages + 34 * length self.old.thinkers }
+    {
+        self.thinkers.forget_ended(&self.bases.thinkers, steps)
     }
 }
 

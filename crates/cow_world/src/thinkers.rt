@@ -1,11 +1,11 @@
 //! Thinkers.
-ghost use Rattle.std.specs.Prelude.{◌≡◌, ◌⊎◌, ℕ, ◌+◌, ◌<◌, ◌≤◌, length, IfSome, Some, IsTrue, OnOk, OnErr};
+ghost use Rattle.std.specs.Prelude.{◌≡◌, ◌⊎◌, ℕ, ◌+◌, ◌*◌, ◌<◌, ◌≤◌, length, IfSome, Some, IsTrue, OnOk, OnErr};
 ghost use Rattle.cow_world.specs.Thinkers.{sector_of, moved_by, is_lift, lift_count};
 ghost use Rattle.cow_world.specs.Flat.{IsLive, parts, thinker_at, push_thinker, set_thinker};
 ghost use Rattle.cow_world.specs.Ends.{unnamed, end_mover};
 ghost use Rattle.cow_world.specs.Fits.{KeepsFit, Serves, GoesOn};
 
-use crate::passed::Stretch;
+use crate::kept_thinkers::Stretch;
 use crate::records::{Sector, Thinker};
 use crate::world::World;
 use doom_edge::{Memory, Steps};
@@ -16,7 +16,7 @@ impl World {
         requires { IsLive self.now }
         ensures { result ≡ length (parts self.now).thinkers }
     {
-        self.lists.thinker_count() as u32
+        self.lists.thinker_count()
     }
 
     /// The thinker at a place. Its sector is there.
@@ -26,11 +26,11 @@ impl World {
         ensures entry { result ≡ thinker_at self.now i }
         ensures sector { IfSome (sector_of result) (λ sector. sector < length (parts self.now).sectors) }
     {
-        self.lists.thinker(i as usize)
+        self.lists.thinker(i)
     }
 
     /// The next places from one on whose thinkers may be live: those before them have ended. It is empty exactly where no
-    /// more may be. It takes about the logarithm of the number of live thinkers.
+    /// more may be.
     pub fn stretch_from(&self, from: u32) -> Stretch
         requires live { IsLive self.now }
         requires there { from ≤ length (parts self.now).thinkers }
@@ -40,7 +40,21 @@ impl World {
         ensures some { result.start < length (parts self.now).thinkers → result.start < result.end }
         ensures ended { (i : ℕ) → from ≤ i → i < result.start → thinker_at self.now i ≡ Thinker.Ended }
     {
-        self.passed.next(&self.lists, from)
+        self.lists.stretch_from(from)
+    }
+
+    /// Lets go of thinkers that have ended, once they are at least half of those that are kept; the world means what it
+    /// meant. What ended lies among as many others at most, so that neither a tic nor a fork nor a kept world grows with
+    /// all that ever ended. On `Memory` the world is as before.
+    pub fn forget_ended(&mut self, steps: &mut Steps) -> Result<(), Memory>
+        requires { IsLive self.old }
+        ensures kept { self.new ≡ self.old }
+
+        ensures tics { steps.new.tics ≡ steps.old.tics }
+        ensures least { steps.old.pages ≤ steps.new.pages }
+        ensures most { steps.new.pages ≤ steps.old.pages + 34 * length (parts self.old).thinkers }
+    {
+        self.lists.forget_ended(steps)
     }
 
     /// Adds a thinker behind the others. The sector that it moves doesn't name it yet.
@@ -56,7 +70,7 @@ impl World {
         ensures least { steps.old.pages ≤ steps.new.pages }
         ensures most { steps.new.pages ≤ steps.old.pages + 34 }
     {
-        if self.lists.thinker_count() >= u32::MAX as usize {
+        if self.lists.thinker_count() == u32::MAX {
             return Err(Memory);
         }
         self.lists.push_thinker(thinker, steps)?;
@@ -77,9 +91,7 @@ impl World {
         ensures least { steps.old.pages ≤ steps.new.pages }
         ensures most { steps.new.pages ≤ steps.old.pages + 34 }
     {
-        self.passed.allow(&self.lists, i, &to);
-        self.lists.set_thinker(i as usize, to, steps)?;
-        self.passed.note(i, &to);
+        self.lists.set_thinker(i, to, steps)?;
         Ok(())
     }
 

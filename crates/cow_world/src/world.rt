@@ -7,7 +7,6 @@ ghost use Rattle.cow_world.specs.Flat.{opening, no_player, sector_from, special_
 
 use crate::grid::{Grid, level_grid};
 use crate::lists::Lists;
-use crate::passed::Passed;
 use crate::records::{Player, Sector};
 use doom_edge::{Memory, Steps, moves_between_threads};
 use game_trait::Halt;
@@ -27,14 +26,13 @@ use std::marker::Model;
 /// - the lines that acted in the last step;
 /// - the player, the random index, the level time, the number of tics, and how the level was left.
 ///
-/// Each place that it keeps is in range. Beside that it knows some of the thinkers that have ended, which `stretch_from`
-/// passes over; a world means the same whatever it knows of them. Its lists lie in pages that forks share. After want of memory a world is as it
-/// was before the call, but for `end_mover`, which says what it may have done.
+/// Each place that it keeps is in range. Its lists lie in pages that forks share; of its thinkers those that have ended may
+/// be left out, which `forget_ended` does and which changes nothing that a world means. After want of memory a world is as
+/// it was before the call, but for `end_mover`, which says what it may have done.
 #[derive(Drop)]
 pub struct World {
     pub(crate) lists: Lists,
     pub(crate) order: LinkOrder,
-    pub(crate) passed: Passed,
     pub(crate) acted: Vec<u32>,
     pub(crate) player: Player,
     pub(crate) rng: u8,
@@ -97,7 +95,6 @@ impl World {
                 opening_specials(alloc, level)?,
             )?,
             order: LinkOrder::new(alloc, grid.width * grid.height)?,
-            passed: Passed::new(alloc),
             acted: Vec::new(alloc),
             player: no_player(),
             rng: 0,
@@ -123,7 +120,6 @@ impl World {
         Ok(World {
             lists: self.lists.fork(steps)?,
             order: self.order.fork()?,
-            passed: self.passed.fork()?,
             acted: Vec::from_slice(alloc, &self.acted)?,
             player: self.player,
             rng: self.rng,
@@ -164,7 +160,6 @@ impl World {
         ensures { self.new ≡ set_halted self.old tic halt }
     {
         self.lists.clear();
-        self.passed.clear();
         self.acted.clear();
         self.player = no_player();
         self.halted = Some((tic, halt));

@@ -3,9 +3,9 @@ use Rattle.std.proofs.Common.{◌≡◌, ℕ, zero, suc, ◌+◌, ◌-◌, ◌<�
 use Rattle.std.specs.List.{range_with_len}
 use Rattle.std.proofs.Math.Seq.{drop-cons}
 use Rattle.game_trait.specs.declared.shown.Halt.{Halt}
-use Rattle.cow_world.specs.declared.passed.Stretch.{Stretch}
+use Rattle.cow_world.specs.declared.kept_thinkers.Stretch.{Stretch}
 use Rattle.cow_world.specs.Outcome.{Outcome, goes, halts, and_then, each_from, each_from-append}
-use Rattle.cow_world.specs.Passed.{places}
+use Rattle.cow_world.specs.Stretches.{places}
 use Rattle.cow_world.proofs.Stretches.{left_places}
 
 module _ {X A : Type 0} (part : X → A → Outcome A) (whole : Outcome A) where

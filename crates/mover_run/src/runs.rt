@@ -3,7 +3,7 @@ ghost use Rattle.std.specs.Prelude.{◌≡◌, ◌<◌, ◌≤◌, length, OnOk}
 ghost use Rattle.cow_world.specs.Flat.{parts};
 ghost use Rattle.cow_world.specs.Fits.{Fits};
 ghost use Rattle.cow_world.specs.Outcome.{Moves, each_from};
-ghost use Rattle.cow_world.specs.Passed.{places};
+ghost use Rattle.cow_world.specs.Stretches.{places};
 ghost use Rattle.light_fx.specs.Lights.{run_light_of};
 ghost use Rattle.mover_run.specs.Runs.{run_thinker_of, run_thinkers_of};
 

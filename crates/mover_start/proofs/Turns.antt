@@ -5,10 +5,10 @@ use Rattle.std.specs.List.{range_with_len}
 use Rattle.std.proofs.lemmas.Bool.{cases_Bool}
 use Rattle.std.proofs.lemmas.List.Sums.{fold-append}
 use Rattle.map_geometry.specs.Lists.{Lists}
-use Rattle.cow_world.specs.declared.passed.Stretch.{Stretch}
+use Rattle.cow_world.specs.declared.kept_thinkers.Stretch.{Stretch}
 use Rattle.cow_world.specs.declared.records.Thinker.TheVariants.{Ended}
 use Rattle.cow_world.specs.Flat.{Gridded, parts, thinker_at}
-use Rattle.cow_world.specs.Passed.{places}
+use Rattle.cow_world.specs.Stretches.{places}
 use Rattle.cow_world.proofs.Stretches.{left_places}
 use Rattle.mover_start.specs.Lifts.{is_lift_with, with_stopped, lift_turned, lifts_turned}
 

@@ -3,7 +3,7 @@ ghost use Rattle.std.specs.Prelude.{◌≡◌, ◌<◌, ◌≤◌, length, fold,
 ghost use Rattle.cow_world.specs.Flat.{parts};
 ghost use Rattle.cow_world.specs.Fits.{FitsLevel, KeepsFit};
 ghost use Rattle.cow_world.specs.Outcome.{Plays};
-ghost use Rattle.cow_world.specs.Passed.{places};
+ghost use Rattle.cow_world.specs.Stretches.{places};
 ghost use Rattle.mover_start.specs.Lifts.{lift_turned, lifts_turned, stop_plat_of};
 
 use cow_world::{PlayFault, Stretch, Thinker, World};

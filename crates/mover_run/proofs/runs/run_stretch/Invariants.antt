@@ -4,7 +4,7 @@ use Rattle.std.specs.List.{range_with_len}
 use Rattle.cow_world.specs.Flat.{parts}
 use Rattle.cow_world.specs.Fits.{Fits}
 use Rattle.cow_world.specs.Outcome.{each_from}
-use Rattle.cow_world.specs.Passed.{places}
+use Rattle.cow_world.specs.Stretches.{places}
 use Rattle.mover_run.specs.Runs.{run_thinker_of}
 use Rattle.mover_run.proofs.runs.run_stretch.Given as goal
 

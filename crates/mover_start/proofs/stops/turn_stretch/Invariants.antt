@@ -3,7 +3,7 @@ use Rattle.std.proofs.Common.{◌≡◌, ◌≤◌, length}
 use Rattle.std.specs.Prelude.{fold}
 use Rattle.cow_world.specs.Flat.{parts}
 use Rattle.cow_world.specs.Fits.{KeepsFit}
-use Rattle.cow_world.specs.Passed.{places}
+use Rattle.cow_world.specs.Stretches.{places}
 use Rattle.mover_start.specs.Lifts.{lift_turned}
 use Rattle.mover_start.proofs.Turns.{Turned}
 use Rattle.mover_start.proofs.stops.turn_stretch.Given as goal

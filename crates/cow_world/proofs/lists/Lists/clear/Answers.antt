@@ -9,6 +9,6 @@ invariant_of-self c =
       sectors = c.clear.ensures.over bases.sectors.items;
       specials = c.clear-2.ensures.over bases.specials.items;
       things = c.clear-3.ensures.over bases.things.items;
-      thinkers = c.clear-4.ensures.over bases.thinkers.items;
+      thinkers = c.clear-4.ensures.list bases.thinkers.items;
       beside = rw (c.clear-3.ensures.seen bases.things.items) (record { few = omega arith; there = λ other. absurd (other refl) });
     }

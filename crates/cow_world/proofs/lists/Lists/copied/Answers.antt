@@ -9,5 +9,5 @@ copied-requires-2 c = rw (c.deref-4.ensures.value, c.deref-3.ensures) c.self.inv
 pub copied-requires-3 : goal.copied-requires-3
 copied-requires-3 c = rw (c.deref-6.ensures.value, c.deref-5.ensures) c.self.invariant.things
 
-pub copied-requires-4 : goal.copied-requires-4
-copied-requires-4 c = rw (c.deref-8.ensures.value, c.deref-7.ensures) c.self.invariant.thinkers
+pub own-requires : goal.own-requires
+own-requires c = rw (c.deref-8.ensures.value, c.deref-7.ensures) c.self.invariant.thinkers

@@ -1,6 +1,7 @@
 use Rattle.std.proofs.Common.{◌≡◌}
 use Rattle.std.specs.Arc.{arc_value}
 use Rattle.page_store.specs.Over.{seen}
+use Rattle.cow_world.specs.KeptThinkers.{thinkers_in}
 use Rattle.cow_world.proofs.lists.Lists.fork.Goals as goal
 
 pub fork-requires : goal.fork-requires
@@ -85,7 +86,7 @@ invariant_of-self-in_err-thinkers c =
       sectors = rw (c.deref-2.ensures.value, c.deref.ensures) at c.fork.ensures.over;
       specials = rw (c.deref-4.ensures.value, c.deref-3.ensures) at c.fork-2.ensures.over;
       things = rw (c.deref-6.ensures.value, c.deref-5.ensures) at c.fork-3.ensures.over;
-      thinkers = rw (c.deref-8.ensures.value, c.deref-7.ensures) at c.fork-4.ensures.over;
+      thinkers = rw (c.deref-8.ensures.value, c.deref-7.ensures) at c.fork-4.ensures.list;
       beside = rw same_things c.self.invariant.beside;
     }
 
@@ -96,7 +97,7 @@ returns-in_err-thinkers-clause-kept c =
     let same_sectors : seen bases.sectors.items c.fork.new.self ≡ seen bases.sectors.items lists.sectors = rw (c.deref-2.ensures.value, c.deref.ensures) at c.fork.ensures.kept in
     let same_specials : seen bases.specials.items c.fork-2.new.self ≡ seen bases.specials.items lists.specials = rw (c.deref-4.ensures.value, c.deref-3.ensures) at c.fork-2.ensures.kept in
     let same_things : seen bases.things.items c.fork-3.new.self ≡ seen bases.things.items lists.things = rw (c.deref-6.ensures.value, c.deref-5.ensures) at c.fork-3.ensures.kept in
-    let same_thinkers : seen bases.thinkers.items c.fork-4.new.self ≡ seen bases.thinkers.items lists.thinkers = rw (c.deref-8.ensures.value, c.deref-7.ensures) at c.fork-4.ensures.kept in
+    let same_thinkers : thinkers_in bases.thinkers.items c.fork-4.new.self ≡ thinkers_in bases.thinkers.items lists.thinkers = rw (c.deref-8.ensures.value, c.deref-7.ensures) at c.fork-4.ensures.kept in
     rw (same_sectors, same_specials, same_things, same_thinkers) c.self.view_is
 
 pub invariant_of-self-2 : goal.invariant_of-self-2
@@ -108,7 +109,7 @@ invariant_of-self-2 c =
       sectors = rw (c.deref-2.ensures.value, c.deref.ensures) at c.fork.ensures.over;
       specials = rw (c.deref-4.ensures.value, c.deref-3.ensures) at c.fork-2.ensures.over;
       things = rw (c.deref-6.ensures.value, c.deref-5.ensures) at c.fork-3.ensures.over;
-      thinkers = rw (c.deref-8.ensures.value, c.deref-7.ensures) at c.fork-4.ensures.over;
+      thinkers = rw (c.deref-8.ensures.value, c.deref-7.ensures) at c.fork-4.ensures.list;
       beside = rw same_things c.self.invariant.beside;
     }
 
@@ -119,7 +120,7 @@ returns-clause-kept c =
     let same_sectors : seen bases.sectors.items c.fork.new.self ≡ seen bases.sectors.items lists.sectors = rw (c.deref-2.ensures.value, c.deref.ensures) at c.fork.ensures.kept in
     let same_specials : seen bases.specials.items c.fork-2.new.self ≡ seen bases.specials.items lists.specials = rw (c.deref-4.ensures.value, c.deref-3.ensures) at c.fork-2.ensures.kept in
     let same_things : seen bases.things.items c.fork-3.new.self ≡ seen bases.things.items lists.things = rw (c.deref-6.ensures.value, c.deref-5.ensures) at c.fork-3.ensures.kept in
-    let same_thinkers : seen bases.thinkers.items c.fork-4.new.self ≡ seen bases.thinkers.items lists.thinkers = rw (c.deref-8.ensures.value, c.deref-7.ensures) at c.fork-4.ensures.kept in
+    let same_thinkers : thinkers_in bases.thinkers.items c.fork-4.new.self ≡ thinkers_in bases.thinkers.items lists.thinkers = rw (c.deref-8.ensures.value, c.deref-7.ensures) at c.fork-4.ensures.kept in
     rw (same_sectors, same_specials, same_things, same_thinkers) c.self.view_is
 
 pub invariant_of-result : goal.invariant_of-result

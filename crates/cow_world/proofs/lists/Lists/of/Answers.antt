@@ -10,6 +10,6 @@ invariant_of-result c =
       sectors = rw c.deref-2.ensures.value at c.over.ensures.over;
       specials = rw c.deref-3.ensures.value at c.over-2.ensures.over;
       things = rw c.deref-4.ensures.value at c.over-3.ensures.over;
-      thinkers = rw c.deref-5.ensures.value at c.over-4.ensures.over;
+      thinkers = c.requires.thinkers;
       beside = rw same (rw c.deref.ensures.value at c.beside-place.ensures.beside);
     })

@@ -1,4 +1,4 @@
 use Rattle.cow_world.proofs.lists.Lists.thinker.Goals as goal
 
-pub get-requires-clause-over : goal.get-requires-clause-over
-get-requires-clause-over c = rw (c.deref-2.ensures.value, c.deref.ensures) c.self.invariant.thinkers
+pub get-requires-clause-list : goal.get-requires-clause-list
+get-requires-clause-list c = rw (c.deref-2.ensures.value, c.deref.ensures) c.self.invariant.thinkers

@@ -25,7 +25,6 @@ invariant_of-self c =
     record {
       movers = c.self.invariant.movers;
       thinkers = c.self.invariant.thinkers;
-      passed = c.self.invariant.passed;
       player = c.self.invariant.player;
       acted = c.self.invariant.acted;
       exited = c.self.invariant.exited;

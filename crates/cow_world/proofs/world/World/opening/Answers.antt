@@ -10,7 +10,6 @@ pub invariant_of-result : goal.invariant_of-result
 invariant_of-result c = rw c.in_ok-new.ensures (record {
   movers = no_movers _ _ _ c.in_ok-opening_sectors.ensures.sectors;
   thinkers = λ k d below. absurd (omega arith);
-  passed = rw c.new-3.ensures (λ k d below. absurd (omega arith));
   player = let none : c.no_player.result.thing ≡ 0 = ap (λ (p : Player). p.thing) c.no_player.ensures in omega (arith, none);
   acted = grind (arith, common_steps);
   exited = omega arith;

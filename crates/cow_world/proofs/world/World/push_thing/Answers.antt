@@ -12,7 +12,6 @@ invariant_of-self-2 c =
     (record {
       movers = c.self.invariant.movers;
       thinkers = c.self.invariant.thinkers;
-      passed = c.self.invariant.passed;
       player = omega (arith, c.self.invariant.player, length-append c.self.inside.lists.things (c.args.thing ∷ []));
       acted = c.self.invariant.acted;
       exited = c.self.invariant.exited;
