@@ -1,7 +1,7 @@
 -- Lists in pieces of 32: piece k begins at item 32 * k.
 use Rattle.std.proofs.Common.{◌≡◌, ◌≢◌, ℕ, ◌+◌, ◌-◌, ◌*◌, ◌/◌, ◌%◌, ◌<◌, ◌≤◌, ◌⊎◌, inl, inr, List, Some, [], ◌∷◌, ◌++◌, length, get_or, set, take, drop, min, slice_get, Result, Ok, Err, OnErr, refl, sym, ap, ◌∙◌, arith, length-append, length-set, append_assoc, zero, suc, map, subst}
 use Rattle.std.proofs.Math.Seq.{take-add}
-use Rattle.std.proofs.lemmas.List.{append-nil, length-take, length-drop, take_all, take_min, drop_all, get_or-take, get_or_append_left, get_or-append_right, set-append_left, set-append_right, length-map, get_or-map, get_or_past, get_or-drop, map-set, set-get_or, map-append, take_more, drop-drop, drop_at, take-append-le, at_drop_more}
+use Rattle.std.proofs.lemmas.List.{append-nil, length-take, length-drop, take_all, take_min, drop_all, get_or-take, get_or_append_left, get_or-append_right, set-append_left, set-append_right, length-map, get_or-map, get_or_past, get_or-drop, map-set, set-get_or, map-append, take_more, drop-drop, drop_at, take-append-le}
 use Rattle.std.proofs.lemmas.Bool.{cases_lt, eq-eqb, ne_eqb}
 use Rattle.std.proofs.lemmas.Grind.{flat_map-append}
 use Rattle.std.proofs.lemmas.Option.{slice_get-get_or, get_or_from_slice_get}
@@ -465,30 +465,3 @@ module _ {T A : Type 0} (items : A → List (Named T)) (base : List T) (tables :
 
   pub single_tabled : ArePages (named_pieces base (items table)) → AreTabled base (map items tables)
   single_tabled paged = subst (λ kept. AreTabled base (map items kept)) (sym is) paged
-
--- ---- items that are copied piece by piece
-
--- what is left begins with the next piece
-module _ {A X : Type 0} (f : A → List X) (xs : List A) (i : ℕ) (x : A) (there : i < length xs) (is : x ≡ get_or xs i x) where
-  left_next : joined (map f (drop i xs)) ≡ f x ++ joined (map f (drop (i + 1) xs))
-  left_next =
-      at_drop_more (λ left. joined (map f left)) xs i x there
-      ∙ ap (λ next. f next ++ joined (map f (drop (i + 1) xs))) (sym is)
-
-  pub left_length : length (joined (map f (drop i xs))) ≡ length (f x) + length (joined (map f (drop (i + 1) xs)))
-  left_length = ap length left_next ∙ length-append (f x) (joined (map f (drop (i + 1) xs)))
-
-  -- once it is copied, the copy and what is left are still the whole
-  pub copied_next : (copy copied whole : List X) → copied ≡ copy ++ f x → copy ++ joined (map f (drop i xs)) ≡ whole
-      → copied ++ joined (map f (drop (i + 1) xs)) ≡ whole
-  copied_next copy copied whole more so_far =
-      ap (λ front. front ++ joined (map f (drop (i + 1) xs))) more
-      ∙ append_assoc copy (f x) (joined (map f (drop (i + 1) xs)))
-      ∙ ap (λ left. copy ++ left) (sym left_next)
-      ∙ so_far
-
--- at the end nothing is left
-pub copied_all : {A X : Type 0} (f : A → List X) (xs : List A) (i : ℕ) (copy whole : List X) → length xs ≤ i
-    → copy ++ joined (map f (drop i xs)) ≡ whole → copy ≡ whole
-copied_all f xs i copy whole past so_far =
-    sym (append-nil copy) ∙ ap (λ left. copy ++ joined (map f left)) (sym (drop_all i xs past)) ∙ so_far

@@ -56,6 +56,7 @@ impl<T: Copy> Named<T> {
 /// of a list that was written there is none, and the items are those of the base.
 #[derive(Drop)]
 pub struct Settled<T> {
+    // None or one.
     tables: Vec<Arc<Vec<Named<T>>>>,
 }
 
@@ -129,6 +130,17 @@ impl<T: Copy> Settled<T> {
         page_at(base, self.table(), i / PAGE_LEN)
     }
 
+    /// A name of the page in which a place is.
+    pub fn named(&self, base: &[T], i: usize) -> Result<Named<T>, Memory>
+        requires { AreSettled base.now self.now }
+        ensures { IfOk result (λ named. named_items base.now named ≡ take 32 (drop (32 * (i / 32)) (under base.now self.now))) }
+    {
+        if self.tables.len() == 0 {
+            return Ok(Named::Based(PAGE_LEN * (i / PAGE_LEN)));
+        }
+        name_at(base, self.table(), i / PAGE_LEN)
+    }
+
     /// Copies all items behind those of a list, each by one step.
     pub fn copy_onto(&self, base: &[T], copy: &mut Vec<T>, steps: &mut Steps) -> Result<(), Memory>
         ensures ok { OnOk result (copy.new.items ≡ copy.old.items ++ under base.now self.now) }
@@ -140,17 +152,6 @@ impl<T: Copy> Settled<T> {
             return copy_onto(copy, base, steps);
         }
         copy_table_onto(base, self.table(), copy, steps)
-    }
-
-    /// A name of the page in which a place is.
-    pub fn named(&self, base: &[T], i: usize) -> Result<Named<T>, Memory>
-        requires { AreSettled base.now self.now }
-        ensures { IfOk result (λ named. named_items base.now named ≡ take 32 (drop (32 * (i / 32)) (under base.now self.now))) }
-    {
-        if self.tables.len() == 0 {
-            return Ok(Named::Based(PAGE_LEN * (i / PAGE_LEN)));
-        }
-        name_at(base, self.table(), i / PAGE_LEN)
     }
 }
 
@@ -183,6 +184,17 @@ fn page_at<'a, T: Copy>(base: &'a [T], table: &'a [Named<T>], k: usize) -> &'a [
     table[k].items(base)
 }
 
+// A name of a page of a table.
+fn name_at<T: Copy>(base: &[T], table: &[Named<T>], k: usize) -> Result<Named<T>, Memory>
+    requires { ArePages (named_pieces base.now table.now) }
+    ensures { IfOk result (λ named. named_items base.now named ≡ take 32 (drop (32 * k) (joined (named_pieces base.now table.now)))) }
+{
+    if k >= table.len() {
+        return Ok(Named::Based(base.len()));
+    }
+    table[k].named()
+}
+
 // Copies the items of all pages of a table behind those of a list, each by one step.
 fn copy_table_onto<T: Copy>(
     base: &[T],
@@ -199,15 +211,4 @@ fn copy_table_onto<T: Copy>(
         copy_onto(copy, page.items(base), steps)?;
     }
     Ok(())
-}
-
-// A name of a page of a table.
-fn name_at<T: Copy>(base: &[T], table: &[Named<T>], k: usize) -> Result<Named<T>, Memory>
-    requires { ArePages (named_pieces base.now table.now) }
-    ensures { IfOk result (λ named. named_items base.now named ≡ take 32 (drop (32 * k) (joined (named_pieces base.now table.now)))) }
-{
-    if k >= table.len() {
-        return Ok(Named::Based(base.len()));
-    }
-    table[k].named()
 }
