@@ -46,6 +46,18 @@ impl<T: Copy> Page<T> {
         }
     }
 
+    /// Its items.
+    pub fn items<'a>(&'a self, base: &'a [T], settled: &'a Settled<T>) -> &'a [T]
+        requires { AreSettled base.now settled.now }
+        ensures { result.now ≡ items_of (under base.now settled.now) self.now }
+    {
+        match self {
+            Page::Under(start) => settled.page(base, *start),
+            Page::Owned(items) => items.as_slice(),
+            Page::Shared(items) => items.as_slice(),
+        }
+    }
+
     /// Writes an item. A page that isn't owned is first replaced by a copy.
     pub fn set(
         &mut self,
@@ -152,7 +164,7 @@ impl<T: Copy> Page<T> {
         match mem::replace(self, Page::Under(0)) {
             Page::Under(start) => {
                 *self = Page::Under(start);
-                settled.copied(alloc, base, start, steps)
+                copy_of(alloc, settled.page(base, start), steps)
             }
             Page::Owned(items) => Ok(items),
             Page::Shared(items) => {

@@ -5,7 +5,7 @@ ghost use Rattle.page_store.specs.Under.{under, AreSettled};
 ghost use Rattle.page_store.specs.Over.{seen, IsOver};
 
 use crate::page::Page;
-use crate::part::PAGE_LEN;
+use crate::part::{PAGE_LEN, copy_onto};
 use crate::settled::{Named, Settled};
 use doom_edge::{Memory, Steps};
 use std::alloc::Global;
@@ -156,10 +156,14 @@ impl<T: Copy> Pages<T> {
         ensures most { steps.new.pages ≤ steps.old.pages + length (seen base.now self.now) }
     {
         let mut items = Vec::with_capacity(*self.pages.allocator(), self.len)?;
-        for i in 0..self.len {
-            steps.page();
-            items.push(self.get(base, i))?;
-        }
+        copy_all_onto(
+            base,
+            &self.settled,
+            &self.pages,
+            self.len,
+            &mut items,
+            steps,
+        )?;
         Ok(items)
     }
 }
@@ -347,4 +351,46 @@ fn share_all<T: Copy>(
         named.push(pages[k].share(alloc, base, settled, steps)?)?;
     }
     Ok(named)
+}
+
+// Copies the items of a store behind those of a list, each by one step.
+fn copy_all_onto<T: Copy>(
+    base: &[T],
+    settled: &Settled<T>,
+    pages: &[Page<T>],
+    len: usize,
+    copy: &mut Vec<T>,
+    steps: &mut Steps,
+) -> Result<(), Memory>
+    requires settled { AreSettled base.now settled.now }
+    requires store { IsStore (under base.now settled.now) pages.now len }
+    ensures ok { OnOk result (copy.new.items ≡ copy.old.items ++ seen_in (under base.now settled.now) pages.now len) }
+    ensures tics { steps.new.tics ≡ steps.old.tics }
+    ensures least { steps.old.pages ≤ steps.new.pages }
+    ensures most { steps.new.pages ≤ steps.old.pages + length (seen_in (under base.now settled.now) pages.now len) }
+{
+    if pages.len() > 0 || len == 0 {
+        return copy_pages_onto(base, settled, pages, copy, steps);
+    }
+    settled.copy_onto(base, copy, steps)
+}
+
+// Copies the items of all pages behind those of a list, each by one step.
+fn copy_pages_onto<T: Copy>(
+    base: &[T],
+    settled: &Settled<T>,
+    pages: &[Page<T>],
+    copy: &mut Vec<T>,
+    steps: &mut Steps,
+) -> Result<(), Memory>
+    requires { AreSettled base.now settled.now }
+    ensures ok { OnOk result (copy.new.items ≡ copy.old.items ++ joined (pieces_of (under base.now settled.now) pages.now)) }
+    ensures tics { steps.new.tics ≡ steps.old.tics }
+    ensures least { steps.old.pages ≤ steps.new.pages }
+    ensures most { steps.new.pages ≤ steps.old.pages + length (joined (pieces_of (under base.now settled.now) pages.now)) }
+{
+    for page in pages {
+        copy_onto(copy, page.items(base, settled), steps)?;
+    }
+    Ok(())
 }

@@ -1,5 +1,5 @@
 // Parts of a base, and copies.
-ghost use Rattle.std.specs.Prelude.{◌≡◌, ◌+◌, ◌≤◌, length, take, drop, IfOk};
+ghost use Rattle.std.specs.Prelude.{◌≡◌, ◌+◌, ◌*◌, ◌≤◌, ◌++◌, length, take, drop, OnOk, IfOk};
 
 use doom_edge::{Memory, Steps};
 use std::alloc::Global;
@@ -23,22 +23,33 @@ pub fn copy_of<T: Copy>(alloc: Global, items: &[T], steps: &mut Steps) -> Result
     ensures most { steps.new.pages ≤ steps.old.pages + length items.now }
 {
     let mut copy = Vec::with_capacity(alloc, PAGE_LEN)?;
-    if items.len() == PAGE_LEN {
-        count_page(steps);
-    } else {
-        count(steps, items.len());
-    }
-    copy.extend_from_slice(items)?;
+    copy_onto(&mut copy, items, steps)?;
     Ok(copy)
 }
 
-// Counts the items of a whole page. The number is known when the program is built, so that no loop is left.
-fn count_page(steps: &mut Steps)
+/// Copies items behind those of a list as one block, each by one step.
+pub fn copy_onto<T: Copy>(copy: &mut Vec<T>, items: &[T], steps: &mut Steps) -> Result<(), Memory>
+    ensures ok { OnOk result (copy.new.items ≡ copy.old.items ++ items.now) }
     ensures tics { steps.new.tics ≡ steps.old.tics }
     ensures least { steps.old.pages ≤ steps.new.pages }
-    ensures most { steps.new.pages ≤ steps.old.pages + 32 }
+    ensures most { steps.new.pages ≤ steps.old.pages + length items.now }
 {
-    count(steps, PAGE_LEN);
+    count_pages(steps, items.len() / PAGE_LEN);
+    count(steps, items.len() % PAGE_LEN);
+    copy.extend_from_slice(items)?;
+    Ok(())
+}
+
+// Counts the items of so many whole pages. How many a page has is known when the program is built, so that one sum
+// counts them.
+fn count_pages(steps: &mut Steps, pages: usize)
+    ensures tics { steps.new.tics ≡ steps.old.tics }
+    ensures least { steps.old.pages ≤ steps.new.pages }
+    ensures most { steps.new.pages ≤ steps.old.pages + 32 * pages }
+{
+    for _k in 0..pages {
+        count(steps, PAGE_LEN);
+    }
 }
 
 // Counts so many steps.

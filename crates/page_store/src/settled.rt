@@ -1,9 +1,9 @@
 // What a list was at its last fork.
-ghost use Rattle.std.specs.Prelude.{◌≡◌, ◌+◌, ◌*◌, ◌/◌, ◌<◌, ◌≤◌, List, Some, length, slice_get, take, drop, IfOk};
+ghost use Rattle.std.specs.Prelude.{◌≡◌, ◌+◌, ◌*◌, ◌/◌, ◌<◌, ◌≤◌, ◌++◌, List, Some, length, slice_get, take, drop, OnOk, IfOk};
 ghost use Rattle.page_store.specs.Pages.{named_items, named_pieces, joined, ArePages};
 ghost use Rattle.page_store.specs.Under.{under, AreSettled};
 
-use crate::part::{PAGE_LEN, copy_of, part_of};
+use crate::part::{PAGE_LEN, copy_onto, part_of};
 use doom_edge::{Memory, Steps};
 use std::alloc::Global;
 use std::sync::Arc;
@@ -31,16 +31,13 @@ impl<T: Copy> Named<T> {
         }
     }
 
-    /// Its items, each copied by one step.
-    pub fn copied(&self, alloc: Global, base: &[T], steps: &mut Steps) -> Result<Vec<T>, Memory>
-        ensures ok { IfOk result (λ copy. copy.items ≡ named_items base.now self.now) }
-        ensures tics { steps.new.tics ≡ steps.old.tics }
-        ensures least { steps.old.pages ≤ steps.new.pages }
-        ensures most { steps.new.pages ≤ steps.old.pages + length (named_items base.now self.now) }
+    /// Its items.
+    pub fn items<'a>(&'a self, base: &'a [T]) -> &'a [T]
+        ensures { result.now ≡ named_items base.now self.now }
     {
         match self {
-            Named::Based(start) => copy_of(alloc, part_of(base, *start), steps),
-            Named::Shared(items) => copy_of(alloc, items, steps),
+            Named::Based(start) => part_of(base, *start),
+            Named::Shared(items) => items.as_slice(),
         }
     }
 
@@ -59,6 +56,7 @@ impl<T: Copy> Named<T> {
 /// of a list that was written there is none, and the items are those of the base.
 #[derive(Drop)]
 pub struct Settled<T> {
+    // None or one.
     tables: Vec<Arc<Vec<Named<T>>>>,
 }
 
@@ -121,24 +119,15 @@ impl<T: Copy> Settled<T> {
         self.tables[0].as_slice()
     }
 
-    /// A copy of the page in which a place is, each item by one step.
-    pub fn copied(
-        &self,
-        alloc: Global,
-        base: &[T],
-        i: usize,
-        steps: &mut Steps,
-    ) -> Result<Vec<T>, Memory>
+    /// The items of the page in which a place is.
+    pub fn page<'a>(&'a self, base: &'a [T], i: usize) -> &'a [T]
         requires { AreSettled base.now self.now }
-        ensures ok { IfOk result (λ copy. copy.items ≡ take 32 (drop (32 * (i / 32)) (under base.now self.now))) }
-        ensures tics { steps.new.tics ≡ steps.old.tics }
-        ensures least { steps.old.pages ≤ steps.new.pages }
-        ensures most { steps.new.pages ≤ steps.old.pages + length (take 32 (drop (32 * (i / 32)) (under base.now self.now))) }
+        ensures { result.now ≡ take 32 (drop (32 * (i / 32)) (under base.now self.now)) }
     {
         if self.tables.len() == 0 {
-            return copy_of(alloc, part_of(base, PAGE_LEN * (i / PAGE_LEN)), steps);
+            return part_of(base, PAGE_LEN * (i / PAGE_LEN));
         }
-        copy_at(alloc, base, self.table(), i / PAGE_LEN, steps)
+        page_at(base, self.table(), i / PAGE_LEN)
     }
 
     /// A name of the page in which a place is.
@@ -150,6 +139,19 @@ impl<T: Copy> Settled<T> {
             return Ok(Named::Based(PAGE_LEN * (i / PAGE_LEN)));
         }
         name_at(base, self.table(), i / PAGE_LEN)
+    }
+
+    /// Copies all items behind those of a list, each by one step.
+    pub fn copy_onto(&self, base: &[T], copy: &mut Vec<T>, steps: &mut Steps) -> Result<(), Memory>
+        ensures ok { OnOk result (copy.new.items ≡ copy.old.items ++ under base.now self.now) }
+        ensures tics { steps.new.tics ≡ steps.old.tics }
+        ensures least { steps.old.pages ≤ steps.new.pages }
+        ensures most { steps.new.pages ≤ steps.old.pages + length (under base.now self.now) }
+    {
+        if self.tables.len() == 0 {
+            return copy_onto(copy, base, steps);
+        }
+        copy_table_onto(base, self.table(), copy, steps)
     }
 }
 
@@ -171,24 +173,15 @@ fn item_at<T: Copy>(base: &[T], table: &[Named<T>], k: usize, at: usize) -> T
     table[k].item(base, at)
 }
 
-// A copy of a page of a table.
-fn copy_at<T: Copy>(
-    alloc: Global,
-    base: &[T],
-    table: &[Named<T>],
-    k: usize,
-    steps: &mut Steps,
-) -> Result<Vec<T>, Memory>
+// The items of a page of a table. Past the last page there are none.
+fn page_at<'a, T: Copy>(base: &'a [T], table: &'a [Named<T>], k: usize) -> &'a [T]
     requires { ArePages (named_pieces base.now table.now) }
-    ensures ok { IfOk result (λ copy. copy.items ≡ take 32 (drop (32 * k) (joined (named_pieces base.now table.now)))) }
-    ensures tics { steps.new.tics ≡ steps.old.tics }
-    ensures least { steps.old.pages ≤ steps.new.pages }
-    ensures most { steps.new.pages ≤ steps.old.pages + length (take 32 (drop (32 * k) (joined (named_pieces base.now table.now)))) }
+    ensures { result.now ≡ take 32 (drop (32 * k) (joined (named_pieces base.now table.now))) }
 {
     if k >= table.len() {
-        return Ok(Vec::with_capacity(alloc, PAGE_LEN)?);
+        return &base[..0];
     }
-    table[k].copied(alloc, base, steps)
+    table[k].items(base)
 }
 
 // A name of a page of a table.
@@ -200,4 +193,22 @@ fn name_at<T: Copy>(base: &[T], table: &[Named<T>], k: usize) -> Result<Named<T>
         return Ok(Named::Based(base.len()));
     }
     table[k].named()
+}
+
+// Copies the items of all pages of a table behind those of a list, each by one step.
+fn copy_table_onto<T: Copy>(
+    base: &[T],
+    table: &[Named<T>],
+    copy: &mut Vec<T>,
+    steps: &mut Steps,
+) -> Result<(), Memory>
+    ensures ok { OnOk result (copy.new.items ≡ copy.old.items ++ joined (named_pieces base.now table.now)) }
+    ensures tics { steps.new.tics ≡ steps.old.tics }
+    ensures least { steps.old.pages ≤ steps.new.pages }
+    ensures most { steps.new.pages ≤ steps.old.pages + length (joined (named_pieces base.now table.now)) }
+{
+    for page in table {
+        copy_onto(copy, page.items(base), steps)?;
+    }
+    Ok(())
 }

@@ -9,9 +9,9 @@ use std::alloc::Global;
 use std::marker::Model;
 use std::sync::Arc;
 
-/// A list of items in pages of 32 that has its base to itself, or shares it with its forks. A fork touches no count of
-/// owners but the base's and those of the pages that were written since, and a fork of a store that was not written takes
-/// no memory.
+/// A list of items in pages of 32 that has its base to itself, or shares it with its forks. A fork of a store that was
+/// never written touches no count of owners but the base's, and takes no memory. Once there is a table of pages, a fork
+/// names that too; where pages were written since the last fork, it first makes the table.
 #[derive(Drop)]
 pub struct Store<T> {
     base: Arc<Vec<T>>,
