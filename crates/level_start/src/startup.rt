@@ -44,7 +44,7 @@ pub fn start(
     Ok(world)
 }
 
-// Begins in the opening of a level.
+// Starts a level in its opening, the world in which nothing stands yet.
 fn begin(
     alloc: Global,
     level: &Level,
