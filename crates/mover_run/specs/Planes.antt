@@ -57,7 +57,7 @@ abbrev pub next_place : Bool → ℤ → ℤ → ℤ
 next_place true from speed = plus from speed
 next_place false from speed = less from speed
 
--- it lies behind the end of the way
+-- the next place lies past the end of the way
 abbrev pub is_past : Bool → ℤ → ℤ → Bool
 is_past true next dest = int_lt dest next
 is_past false next dest = int_lt next dest
