@@ -1,5 +1,5 @@
--- How far a player who slides may go: up to the nearest line that stops one of three corners. Fractions are parts of
--- the move, in fixed point; sums and differences wrap in 32 bits.
+-- How far a player who slides may go: up to the nearest line that stops one of three corners. 65536 is one unit.
+-- Fractions are parts of the move, in fixed point; sums and differences wrap in 32 bits.
 use Rattle.std.specs.Prelude.{ℕ, ℤ, pos, int_lt, List, Option, Some, None, find, if◌then◌else◌}
 use Rattle.std.specs.Int.{is_positive}
 use Rattle.map_geometry.specs.declared.records.DivLine.{DivLine}
