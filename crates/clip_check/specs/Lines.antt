@@ -26,8 +26,8 @@ overlaps one other = ways_overlap one.left one.right other.left other.right && w
 abbrev pub lies_on : Area → Line → Bool
 lies_on box line = overlaps box line.area && is_none (side_of_box line.slope line box)
 
--- A line blocks where nothing is behind it, with the flag that blocks all, and for all but the player with the flag that
--- blocks monsters.
+-- A line blocks where nothing is behind it, with the flag that blocks all, and for all but the player with the flag
+-- that blocks monsters.
 abbrev pub stops : Bool → Line → Bool
 stops player line = is_none line.back || has_flag line 1 || (not player && has_flag line 2)
 
@@ -46,9 +46,9 @@ open_lines tests near = take_while (λ i. not (tests.blocks i)) (filter tests.me
 abbrev pub listed_after : Tests → List ℕ → List ℕ → List ℕ
 listed_after tests listed near = listed ++ filter tests.special (open_lines tests near)
 
--- From these heights and lines on: whether no line blocks; the greatest of the floor and what the open lines have at the
--- bottom of their gaps, the least of the ceiling and the tops, the least of the dropoff and the lower floors; and the
--- listed lines. A ninth listed line halts.
+-- From these heights and lines on: whether no line blocks; the greatest of the floor and what the open lines have at
+-- the bottom of their gaps, the least of the ceiling and the tops, the least of the dropoff and the lower floors; and
+-- the listed lines. A ninth listed line halts.
 abbrev pub found_from : Tests → Checked → List ℕ → Outcome Checked
 found_from tests from near =
     if nat_lt 8 (length (listed_after tests from.listed near)) then halts Listed

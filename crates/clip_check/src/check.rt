@@ -18,8 +18,9 @@ use std::alloc::Global;
 /// Checks a thing at (x, y): whether anything is in its way, between which floor and ceiling it would stand, over which
 /// drop, and which special lines its box lies on. Things come first, and then lines; the first that is in the way ends
 /// the check. The player touches each special thing that it meets, up to the one that is in the way, whatever comes of
-/// the check. A ninth listed line halts. It takes no memory unless more than 16 things stand around, one is taken, or the
-/// thing's box lies on more than 64 blocks of the grid. After a halt or want of memory nothing is said of the world.
+/// the check. A ninth listed line halts. It takes no memory unless more than 16 things stand around, one is taken, or
+/// the thing's box lies on more than 64 blocks of the grid. After a halt or want of memory nothing is said of the
+/// world.
 #[tactic(auto, unfolding(crate::specs::Checks::check_of))]
 pub fn check_position(
     alloc: Global,

@@ -14,10 +14,10 @@ use fixed_angle::PlayTables;
 use map_geometry::{Level, difference, sum};
 use std::alloc::Global;
 
-/// Clips a thing's height between the floor and the ceiling that its check at its place finds. They are the thing's from
-/// then on, whatever else the check says. A thing that stood on its floor stands on the new one; another one is pushed
-/// down where it would stick in the ceiling. Whether it fits between them. The player touches things, as in each check.
-/// After a halt or want of memory nothing is said of the world.
+/// Clips a thing's height between the floor and the ceiling that its check at its place finds. They are the thing's
+/// from then on, whatever else the check says. A thing that stood on its floor stands on the new one; another one is
+/// pushed down where it would stick in the ceiling. Whether it fits between them. The player touches things, as in each
+/// check. After a halt or want of memory nothing is said of the world.
 #[tactic(auto, using(crate::proofs::Asides::aside_two), unfolding(crate::specs::Clips::clip_of))]
 pub fn height_clip(
     alloc: Global,

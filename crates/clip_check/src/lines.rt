@@ -16,8 +16,8 @@ use game_trait::Halt;
 use map_geometry::{Area, Level, Line, blocks_of, box_side};
 use std::alloc::Global;
 
-/// A box on no more blocks than so many meets the lines of each block, and takes no memory. On more, the lines are listed
-/// once first, since the blocks may share what they list.
+/// A box on no more blocks than so many meets the lines of each block, and takes no memory. On more, the lines are
+/// listed once first, since the blocks may share what they list.
 const FEW_BLOCKS: u64 = 64;
 
 /// The flag of a line that blocks everything.

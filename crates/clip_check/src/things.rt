@@ -14,9 +14,9 @@ use fixed_angle::PlayTables;
 use map_geometry::{Area, Level, blocks_of, box_around, difference, sum, widened};
 use std::alloc::Global;
 
-/// Meets the things around the place of a trial, block by block and in a block the last linked first, up to the first that
-/// blocks; the player touches those that are special. Whether one blocks. Where no more than 16 things stand in the blocks
-/// around and none is taken, it takes no memory.
+/// Meets the things around the place of a trial, block by block and in a block the last linked first, up to the first
+/// that blocks; the player touches those that are special. Whether one blocks. Where no more than 16 things stand in
+/// the blocks around and none is taken, it takes no memory.
 pub fn meet_things(
     alloc: Global,
     level: &Level,

@@ -12,8 +12,8 @@ pub struct Trial {
     pub radius: i32,
 }
 
-/// What a check found. `clear`: nothing is in the way. Where a thing is in the way, `floor`, `ceiling` and `dropoff` are
-/// those of the place's sector, and nothing is listed; where a line is, they are what the lines before it leave.
+/// What a check found. `clear`: nothing is in the way. Where a thing is in the way, `floor`, `ceiling` and `dropoff`
+/// are those of the place's sector, and nothing is listed; where a line is, they are what the lines before it leave.
 #[derive(Drop)]
 pub struct Checked {
     pub clear: bool,

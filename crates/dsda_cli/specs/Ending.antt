@@ -1,4 +1,5 @@
--- How a run ends, and what stands then.
+-- How a run ends, and what stands then. `sure` is the fact that the devices fail at nothing but the take of a name that
+-- isn't held: then no put and no push fails.
 use Rattle.std.specs.Prelude.{◌≡◌, ◌≢◌, ◌≤◌, ◌⊎◌, ℕ, List, [], Option, Some, None, IfSome}
 use Rattle.doom_edge.specs.Counts.{Rose}
 use Rattle.doom_edge.specs.Costs.{Rises}

@@ -160,8 +160,8 @@ TellsRefusal sure fault before after status.NoteFault =
 TellsRefusal sure fault before after status.Memory = after.text ≡ before.text
 TellsRefusal sure fault before after other = ⊥
 
--- How a run ends from what its inputs were judged to: as the outcome under this name says, or with nothing put and nothing
--- pushed, for want of memory. What the work cost makes no difference to that.
+-- How a run ends from what its inputs were judged to: as the outcome under this name says, or with nothing put and
+-- nothing pushed, for want of memory. What the work cost makes no difference to that.
 abbrev pub EndsBy : Type 0 → Option (List ℕ) → Result Output Stop → Seen → Seen → Status → Type 0
 EndsBy sure name (Ok output) before after ended = EndsAs sure (outcome_under name (Ok (with_cost output free))) before after ended
 EndsBy sure name (Err (stop.Refused fault)) before after ended = EndsAs sure (outcome_under name (Err fault)) before after ended

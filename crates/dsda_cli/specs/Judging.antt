@@ -1,5 +1,5 @@
--- Judgements: which answers of a piece of work are right. Most work has one right answer, which is a function's; a reader
--- that judges conditions has the fault of the first that doesn't hold.
+-- Judgements: which answers of a piece of work are right. Most work has one right answer, which is a function's; a
+-- reader that judges conditions has the fault of the first that doesn't hold.
 use Rattle.std.specs.Prelude.{◌≡◌, List, Result, Ok, Err, Some, None}
 use Rattle.fixed_angle.specs.FirstFault.{Condition, FirstFault}
 use Rattle.dsda_cli.specs.declared.fault.InputFault.{InputFault}

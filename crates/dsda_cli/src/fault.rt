@@ -10,7 +10,7 @@ use std::marker::Model;
 use thiserror::Error;
 use wad_lumps::WadFault;
 
-/// An answer of a reader that may also be want of memory.
+/// A fault of a reader that may also be want of memory.
 pub trait MayLackMemory {
     ghost is_memory: { Self → Type 0 };
 }
@@ -92,24 +92,34 @@ impl<F: MayLackMemory> Refused<F> {
 /// Why the input is refused.
 #[derive(Debug, Drop, Error)]
 pub enum InputFault {
+    /// The file that this word names is above its limit.
     #[error("a file is too large")]
     Large(u32),
+    /// The WAD has this fault, or its map.
     #[error("the WAD or its map is faulty")]
     Wad(Refused<WadFault>),
+    /// The table file has this fault.
     #[error("the table file is faulty")]
     Tables(Refused<TabFault>),
+    /// The demo has this fault.
     #[error("the demo is faulty")]
     Demo(Refused<DemoFault>),
+    /// The script's first faulty line, and its fault.
     #[error("the script is faulty")]
     Script(u32, Kind),
+    /// The place of the byte at which the first word of the order file begins that is no hand.
     #[error("the order file is faulty")]
     Order(usize),
+    /// The level has this fault.
     #[error("the level is faulty")]
     Level(Refused<LevelFault>),
+    /// The level can't be started, for this reason.
     #[error("the level can't be started")]
     Start(Refused<StartFault>),
+    /// The line of the script that is the first to name a sector or a line which the level doesn't have.
     #[error("the script names what isn't there")]
     Name(u32),
+    /// The command of this line of the script was refused, for this reason.
     #[error("an edit is refused")]
     Edit(u32, Refused<EditFault>),
 }

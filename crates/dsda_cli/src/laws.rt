@@ -22,8 +22,8 @@ pub fn one_meaning()
     one_verdict();
 }
 
-/// Over a new shelf in memory, no call of which is to fail, and a sink that never fails, a run ends as the words and the
-/// files come to, or for want of memory.
+/// Over a new shelf in memory, no call of which is to fail, and a sink that never fails, a run ends as the words and
+/// the files come to, or for want of memory.
 pub fn run_in_memory<G: Gate + Sync, R: Threads + Sync>(
     alloc: Global,
     rt: &R,

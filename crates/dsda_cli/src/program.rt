@@ -41,7 +41,8 @@ pub fn run<S: Shelf, N: Sink, G: Gate + Sync, R: Threads + Sync>(
     ensures ends { Ends (S.sure shelf.old × N.sure note.old) words.now
         (moment S.Shelf N.Sink shelf.old note.old steps.old.tics) (moment S.Shelf N.Sink shelf.new note.new steps.new.tics) result }
 
-    // Where no count of faults rises, the status is the one that the words and the files come to, or there was no memory.
+    // Where no count of faults rises, the status is the one that the words and the files come to, or there was no
+    // memory.
     ensures complete { IsQuiet (seen S.Shelf N.Sink shelf.old note.old) (seen S.Shelf N.Sink shelf.new note.new)
         → Answers words.now (S.holds shelf.old) result }
 

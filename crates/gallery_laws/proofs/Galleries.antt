@@ -1,4 +1,5 @@
--- The WAD of each gallery passes the test: there are five numbers of rooms, and what is drawn for a room makes no difference.
+-- The WAD of each gallery passes the test: there are five numbers of rooms, and what is drawn for a room makes no
+-- difference.
 use Rattle.std.proofs.Common.{◌≡◌, ℕ, zero, suc, ◌+◌, ◌%◌, ◌<◌, true, false, List, [], ◌∷◌, map, refl, ap, ◌∙◌, arith}
 use Rattle.std.specs.Prelude.{None}
 use Rattle.std.specs.Int.{int_wrap}

@@ -11,8 +11,8 @@ ghost use Rattle.gallery_gen.specs.Tables.{tables_bytes};
 ghost use Rattle.gallery_gen.specs.Gallery.{wad_bytes, demo_head};
 ghost use Rattle.gallery_laws.specs.Lumps.{episode, map_number};
 
-/// Each condition on a level holds of what the lumps spell that are found in the WAD of a gallery: every reference leads
-/// somewhere, no way down the nodes goes round, and the block map is whole.
+/// Each condition on a level holds of what the lumps spell that are found in the WAD of a gallery: every reference
+/// leads somewhere, no way down the nodes goes round, and the block map is whole.
 pub fn level_is_sound()
     ensures { (number : ℕ) (found : MapSpans) → IsMap (wad_bytes number) episode map_number found
         → FirstFault (level_conditions (wad_bytes number) found.spans.items found.other_form found.episode_form) None }

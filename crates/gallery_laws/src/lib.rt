@@ -1,8 +1,9 @@
-//! That the bytes of a gallery are read without a fault, for every number: each law is a function whose clause is the law.
+//! That the bytes of a gallery are read without a fault, for every number: each law is a function whose clause is the
+//! law.
 //!
-//! `gallery_gen` defines the three files of a gallery byte by byte, and the readers' crates say what has to hold of bytes
-//! that they read. So what plays a gallery is never refused for what the gallery's files hold; and the command `gen`, which
-//! also carries a script out, is never refused at all.
+//! `gallery_gen` defines the three files of a gallery byte by byte, and the readers' crates say what has to hold of
+//! bytes that they read. So what plays a gallery is never refused for what the gallery's files hold; and the command
+//! `gen`, which also carries a script out, is never refused at all.
 #![tactic(auto)]
 
 mod demo;

@@ -13,8 +13,8 @@ pub fn wad_is_read()
     ensures { (number : ℕ) → FirstFault (file_conditions (wad_bytes number)) None }
 {}
 
-/// The map that the gallery's demo names is in its WAD, with ten lumps that lie in the file. What a reader finds of it is
-/// labelled `MAP01` and of the original game's form, and the lumps that it finds are those of the gallery.
+/// The map that the gallery's demo names is in its WAD, with ten lumps that lie in the file. What a reader finds of it
+/// is labelled `MAP01` and of the original game's form, and the lumps that it finds are those of the gallery.
 pub fn map_is_found()
     ensures whole { (number : ℕ) → FirstFault (map_conditions (wad_bytes number) episode map_number) None }
     ensures lumps { (number : ℕ) (found : MapSpans) → IsMap (wad_bytes number) episode map_number found

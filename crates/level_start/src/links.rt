@@ -47,7 +47,7 @@ fn linked_things(
     Ok(things)
 }
 
-// Whether a thing is linked.
+// Whether a thing is to be linked: its kind is, and its place lies in the grid.
 fn is_linked(level: &Level, tables: &PlayTables, world: &World, i: u32) -> bool
     requires fits { FitsLevel level.now world.now }
     requires there { i < length (parts world.now).things }

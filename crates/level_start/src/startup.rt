@@ -21,8 +21,8 @@ use std::alloc::Global;
 ///
 /// The things of the map come one after the other. Each that is meant for the skill and for a single player is spawned,
 /// with one random number, and one more where its first state ticks; monsters are left out. The first player's start
-/// becomes the player. The things are then linked in their order, those without blocks and those outside the grid left
-/// out, and last come the lights and doors of the sectors. The world has pages of its own.
+/// becomes the player. The things are then linked in their order, those of kinds that no block lists and those outside
+/// the grid left out, and last come the lights and doors of the sectors. The world has pages of its own.
 ///
 /// # Errors
 ///
@@ -44,7 +44,7 @@ pub fn start(
     Ok(world)
 }
 
-// Begins in the opening of a level.
+// Starts a level in its opening, the world in which nothing stands yet.
 fn begin(
     alloc: Global,
     level: &Level,

@@ -15,14 +15,16 @@ use doom_edge::{Memory, Steps};
 use fixed_angle::PlayTables;
 use map_geometry::{Level, difference};
 
-/// How long a strobe stays dark, in tics.
+/// How long a fast strobe stays dark, in tics.
 pub const FAST_DARK: i32 = 15;
 
+/// How long a slow strobe stays dark, in tics.
 pub const SLOW_DARK: i32 = 35;
 
-/// How long a door of special 10 stays open, and one of special 14 closed, in tics.
+/// How long a door of special 10 stays open, in tics.
 const OPEN_TICS: i32 = 1050;
 
+/// How long a door of special 14 stays closed, in tics.
 const CLOSED_TICS: i32 = 10500;
 
 /// How far below the lowest ceiling around a door comes to rest, in fixed point.
@@ -31,8 +33,8 @@ const DOOR_GAP: i32 = 4 * 65536;
 /// By how much a flicker stays brighter than the darkest light around.
 const FLICKER_RISE: i16 = 16;
 
-/// Begins the lights and doors that the specials of sectors ask for, sector by sector. Each special but 4, which is that
-/// of a damage floor too, is then gone.
+/// Begins the lights and doors that the specials of sectors ask for, sector by sector. Each special but 4, which is
+/// that of a damage floor too, is then gone.
 ///
 /// | special | what begins |
 /// |---|---|
@@ -104,7 +106,7 @@ fn begin_in(
     make_plain(level, world, sector, steps)
 }
 
-/// The special of a sector goes.
+/// Takes the special of a sector.
 pub fn make_plain(
     level: &Level,
     world: &mut World,
@@ -315,7 +317,7 @@ fn begin_door(
     Ok(())
 }
 
-// Stands open for 30 seconds, and then closes. How far it opens was never set.
+// A door that stands open for 30 seconds, and then closes. How far it would open is not set.
 fn closing_door(sector: u32) -> Thinker
     ensures door { result ≡ closing_door sector }
     ensures moves { moved_by result ≡ Some sector }
@@ -330,7 +332,7 @@ fn closing_door(sector: u32) -> Thinker
     }
 }
 
-// Stays closed for five minutes, and then opens to a little below the lowest ceiling around.
+// A door that stays closed for five minutes, and then opens to a little below the lowest ceiling around.
 fn opening_door(level: &Level, world: &World, sector: u32) -> Thinker
     requires fits { FitsLevel level.now world.now }
     requires there { sector < length level.now.sectors }

@@ -150,14 +150,14 @@ fn turn_flash(
     set_count(world, lamp, count, steps)
 }
 
-// 1 to 8 tics, by a random number.
+/// A count of 1 to 8 tics, by a random number.
 pub fn short_count(number: u8) -> i32
     ensures { result ≡ pos (number % 8 + 1) }
 {
     i32::from(number % 8) + 1
 }
 
-// 1 tic or 65, by a random number.
+/// A count of 1 tic or of 65, by a random number.
 pub fn long_count(number: u8) -> i32
     ensures { result ≡ pos (number / 64 % 2 * 64 + 1) }
 {

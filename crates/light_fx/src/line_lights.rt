@@ -12,9 +12,9 @@ use doom_edge::{Memory, Steps};
 use fixed_angle::PlayTables;
 use map_geometry::Level;
 
-/// Does to the lights of the sectors with the line's tag what the kind says, sector by sector. The greatest light around
-/// a sector, once one above 0 was found, serves all sectors after it. After want of memory nothing is said of the world
-/// but its grid.
+/// Does to the lights of the sectors with the line's tag what the kind says, sector by sector. The greatest light
+/// around a sector, once one above 0 was found, serves all sectors after it. After want of memory nothing is said of
+/// the world but its grid.
 #[tactic(auto, unfolding(crate::specs::LineLights::line_light_of))]
 pub fn line_light(
     level: &Level,

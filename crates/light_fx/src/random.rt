@@ -7,8 +7,8 @@ ghost use Rattle.cow_world.specs.Random.{draw, drawn};
 use cow_world::World;
 use fixed_angle::PlayTables;
 
-/// Draws a random number, 0 to 255: the world's index is raised by one, and after 255 comes 0; then what stands at it in
-/// the tables is the answer.
+/// Draws a random number, 0 to 255: the world's index is raised by one, and after 255 comes 0; then what stands at it
+/// in the tables is the answer.
 pub fn play_random(tables: &PlayTables, world: &mut World) -> u8
     requires { IsLive world.old }
     ensures number { result ≡ drawn tables.now world.old }

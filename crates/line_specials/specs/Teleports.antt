@@ -49,11 +49,13 @@ first_exit exit_in (sector ∷ sectors) = with_sector sector (exit_in sector) (f
 unfoldable pub exit_of : Lists → Gridded → ℤ → Option (ℕ × ℕ)
 exit_of level world tag = first_exit (exit_among level world 0 (length (parts world).things)) (sectors_with_tag level tag)
 
--- thing by thing, from the last to the first: it takes the place of the exit so far, unless that lies in an earlier sector
+-- the exit so far lies in an earlier sector
 abbrev pub is_before : Option (ℕ × ℕ) → ℕ → Bool
 is_before None sector = false
 is_before (Some exit) sector = nat_lt exit.0 sector
 
+-- Thing by thing, from the last to the first: an exit of a sector with the tag takes the place of the exit so far,
+-- unless that lies in an earlier sector.
 abbrev pub exit_with : Lists → Gridded → ℤ → Option (ℕ × ℕ) → ℕ → Option (ℕ × ℕ)
 exit_with level world tag exit thing =
     if is_marker world thing && (int_eq (nth_sector level (sector_under level world thing)).tag tag && not (is_before exit (sector_under level world thing)))

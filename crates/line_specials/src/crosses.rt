@@ -23,10 +23,10 @@ pub enum Crossed {
     Teleported,
 }
 
-/// The player has crossed a line from a side. A line with a number of the table's that is walked over acts, whether or not
-/// it starts something, and loses its number unless the table says that it keeps it. It halts (`Special`) at a number of
-/// `CROSSED_HALTS`, and where the line's action does. At all other numbers nothing happens. After `Memory` nothing is said
-/// of the world.
+/// The player has crossed a line from a side. A line whose number the table has as one to be walked over acts, whether
+/// or not it starts something, and loses its number unless the table says that it keeps it. It halts (`Special`) at a
+/// number of `CROSSED_HALTS`, and where the line's action does. At all other numbers nothing happens. After `Memory`
+/// nothing is said of the world.
 #[tactic(auto, unfolding(crate::specs::Acts::cross_of))]
 pub fn cross_line(
     alloc: Global,

@@ -11,8 +11,8 @@ use map_geometry::Level;
 /// An exit: its sector and its thing.
 pub type Exit = (u32, u32);
 
-/// Where a teleporter leads: in the first of the sectors with a tag that has an exit, to the first one. It looks at each
-/// thing once.
+/// Where a teleporter leads: in the first of the sectors with a tag that has an exit, to the first one. It looks at
+/// each thing once.
 pub fn exit_of(level: &Level, world: &World, tag: i16) -> Option<Exit>
     requires { FitsLevel level.now world.now }
     ensures exit { result ≡ exit_of level.now world.now tag }

@@ -20,8 +20,8 @@ use std::alloc::Global;
 /// How long a player who comes out of a teleporter can't move, in tics.
 const STUNNED_TICS: u32 = 18;
 
-/// Sends the player where a line's tag leads, unless the line is crossed from its back. Whether there was an exit. It halts
-/// (`Stomp`) where something that can be hurt stands there. After `Memory` nothing is said of the world.
+/// Sends the player where a line's tag leads, unless the line is crossed from its back. Whether there was an exit. It
+/// halts (`Stomp`) where something that can be hurt stands there. After `Memory` nothing is said of the world.
 #[tactic(auto, unfolding(crate::specs::Teleports::teleport_of), using(cow_world::proofs::Keeps::keeps_same))]
 pub fn teleport(
     alloc: Global,

@@ -17,8 +17,8 @@ use std::alloc::Global;
 
 /// The player has used a line from a side; from its back nothing happens. A switch or a door acts where it starts
 /// something, and then loses its number unless the table says that it keeps it. It halts (`Special`) at a number of
-/// `USED_HALTS`, and where the line's action does. At all other numbers nothing happens. After `Memory` nothing is said of
-/// the world.
+/// `USED_HALTS`, and where the line's action does. At all other numbers nothing happens. After `Memory` nothing is said
+/// of the world.
 #[tactic(auto, unfolding(crate::specs::Acts::use_line_of))]
 pub fn use_line(
     alloc: Global,

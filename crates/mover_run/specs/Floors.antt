@@ -1,4 +1,4 @@
--- What floors do in a tic.
+-- What floors do in a tic. Speeds are in fixed point: 65536 is a unit a tic.
 use Rattle.std.specs.Prelude.{ℤ, pos, Bool, true, false}
 use Rattle.fixed_angle.specs.Tables.{Tables}
 use Rattle.map_geometry.specs.Lists.{Lists}

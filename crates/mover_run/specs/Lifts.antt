@@ -1,4 +1,5 @@
--- What lifts do in a tic. Counts are in tics; they fall by one, and act at 0.
+-- What lifts do in a tic. Counts are in tics; they fall by one, and act at 0. Speeds are in fixed point: 65536 is a
+-- unit a tic.
 use Rattle.std.specs.Prelude.{ℤ, pos, Bool, true, false, Option, Some, None, if◌then◌else◌}
 use Rattle.std.specs.Ordering.{int_eq}
 use Rattle.fixed_angle.specs.Tables.{Tables}

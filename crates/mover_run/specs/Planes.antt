@@ -57,7 +57,7 @@ abbrev pub next_place : Bool → ℤ → ℤ → ℤ
 next_place true from speed = plus from speed
 next_place false from speed = less from speed
 
--- it lies behind the end of the way
+-- the next place lies past the end of the way
 abbrev pub is_past : Bool → ℤ → ℤ → Bool
 is_past true next dest = int_lt dest next
 is_past false next dest = int_lt next dest
@@ -67,8 +67,8 @@ abbrev pub is_rising_ceiling : Plane → Bool → Bool
 is_rising_ceiling Floor up = false
 is_rising_ceiling Ceiling up = up
 
--- The table of cases. Past the end the plane comes to rest at the end, or goes back where something is stuck; the answer is
--- Past both times. Before the end it goes on, or goes back where something is stuck.
+-- The table of cases. Past the end the plane comes to rest at the end, or goes back where something is stuck; the
+-- answer is Past both times. Before the end it goes on, or goes back where something is stuck.
 abbrev pub shift_to : Bool → ℕ → Plane → (from next dest : ℤ) → Bool → Shift
 shift_to true sector plane from next dest up = record { sector = sector; plane = plane; from = from; to = dest; stays = false; moved = Past; stuck = Past }
 shift_to false sector plane from next dest up = record { sector = sector; plane = plane; from = from; to = next; stays = is_rising_ceiling plane up; moved = Going; stuck = Blocked }

@@ -13,10 +13,10 @@ use fixed_angle::PlayTables;
 use map_geometry::Level;
 use std::alloc::Global;
 
-/// Clips the height of each thing in the blocks round a sector, as they stood before: one that the player takes on the way is
-/// still clipped. True exactly where something that can be hurt does not fit between its floor and its ceiling. Where
-/// no more than 16 things stand there it takes no memory but what their checks take. After a halt or want of memory nothing
-/// is said of the world.
+/// Clips the height of each thing in the blocks round a sector, as they stood before: one that the player takes on the
+/// way is still clipped. True exactly where something that can be hurt does not fit between its floor and its ceiling.
+/// Where no more than 16 things stand there it takes no memory but what their checks take. After a halt or want of
+/// memory nothing is said of the world.
 #[tactic(auto, unfolding(crate::specs::Planes::change_of))]
 pub fn change_sector(
     alloc: Global,

@@ -47,8 +47,8 @@ const OPEN_TICS: i32 = 150;
 
 const CLOSED_TICS: i32 = 1050;
 
-/// One tic of a door. It halts (`Unset`) where the door goes up to a top that was never set. After a halt or want of memory
-/// nothing is said of the world.
+/// One tic of a door. It halts (`Unset`) where the door goes up to a top that was never set. After a halt or want of
+/// memory nothing is said of the world.
 pub fn run_door(
     alloc: Global,
     level: &Level,
@@ -189,7 +189,7 @@ fn raise_door(
     }
 }
 
-// Up to a height.
+// A door on its way up to a height.
 fn raise_to(
     alloc: Global,
     level: &Level,
@@ -225,7 +225,7 @@ fn raise_to(
     Ok(raised(level, tables, world, door, moved, steps)?)
 }
 
-// What comes of it.
+// What the move up of its ceiling makes of a door.
 fn raised(
     level: &Level,
     tables: &PlayTables,
@@ -285,7 +285,7 @@ fn lower_door(
     Ok(lowered(level, tables, world, door, moved, steps)?)
 }
 
-// What comes of it.
+// What the move down of its ceiling makes of a door.
 fn lowered(
     level: &Level,
     tables: &PlayTables,

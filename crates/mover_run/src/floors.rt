@@ -64,7 +64,7 @@ pub fn run_floor(
     Ok(moved_on(level, tables, world, floor, moved, steps)?)
 }
 
-// What comes of it.
+// What its move makes of a floor.
 fn moved_on(
     level: &Level,
     tables: &PlayTables,

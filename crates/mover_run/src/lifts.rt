@@ -15,8 +15,8 @@ use game_trait::Halt;
 use map_geometry::{Level, difference};
 use std::alloc::Global;
 
-/// A lift, taken apart: its place among the thinkers, its sector, kind and phase, whether it is stopped, the ends of its
-/// way, how long it waits, and what is left of a wait.
+/// A lift, taken apart: its place among the thinkers, its sector, kind and phase, whether it is stopped, the ends of
+/// its way, how long it waits, and what is left of a wait.
 #[derive(Clone, Copy)]
 pub struct MovingLift {
     pub place: u32,
@@ -39,8 +39,8 @@ const SLOW: i32 = 65536;
 
 const SLOWEST: i32 = 65536 / 2;
 
-/// One tic of a lift; one that is stopped does nothing. It halts (`Unset`) where the lift needs a lower end that was never set:
-/// on its way down, and at the end of a wait. After a halt or want of memory nothing is said of the world.
+/// One tic of a lift; one that is stopped does nothing. It halts (`Unset`) where the lift needs a lower end that was
+/// never set: on its way down, and at the end of a wait. After a halt or want of memory nothing is said of the world.
 pub fn run_lift(
     alloc: Global,
     level: &Level,
@@ -103,7 +103,7 @@ fn raise_lift(
     Ok(raised(level, tables, world, lift, moved, steps)?)
 }
 
-// What comes of it.
+// What its move up makes of a lift.
 fn raised(
     level: &Level,
     tables: &PlayTables,
@@ -186,7 +186,7 @@ fn lower_lift(
     }
 }
 
-// Down to a height.
+// A lift on its way down to a height.
 fn lower_to(
     alloc: Global,
     level: &Level,
@@ -222,7 +222,7 @@ fn lower_to(
     Ok(lowered(level, tables, world, lift, moved, steps)?)
 }
 
-// What comes of it.
+// What its move down makes of a lift.
 fn lowered(
     level: &Level,
     tables: &PlayTables,

@@ -23,8 +23,8 @@ pub enum Moved {
     Past,
 }
 
-/// A plane that is to move: from where to where, whether it stays there whatever is stuck, and the answers where nothing
-/// is and where it goes back.
+/// A plane that is to move: from where to where, whether it stays there whatever is stuck, and the answers where
+/// nothing is and where it goes back.
 #[derive(Clone, Copy)]
 pub struct Shift {
     pub sector: u32,
@@ -36,10 +36,10 @@ pub struct Shift {
     pub stuck: Moved,
 }
 
-/// Moves a sector's floor or ceiling by a speed towards an end. Where that would lead past the end, the plane comes to rest
-/// at the end, and the answer is `Past`. Where something does not fit then, it goes back, and the things around are clipped
-/// once more; the answer is `Blocked`, or still `Past` at the end. A ceiling on its way up doesn't go back before the end.
-/// The next place wraps. After a halt or want of memory nothing is said of the world.
+/// Moves a sector's floor or ceiling by a speed towards an end. Where that would lead past the end, the plane comes to
+/// rest at the end, and the answer is `Past`. Where something does not fit then, it goes back, and the things around
+/// are clipped once more; the answer is `Blocked`, or still `Past` at the end. A ceiling on its way up doesn't go back
+/// before the end. The next place wraps. After a halt or want of memory nothing is said of the world.
 #[tactic(auto, unfolding(crate::specs::Planes::plane_of))]
 pub fn move_plane(
     alloc: Global,
@@ -117,14 +117,14 @@ fn next_place(up: bool, from: i32, speed: i32) -> i32
     }
 }
 
-// Whether it lies behind the end of the way.
+// Whether the next place of a plane lies past the end of its way.
 fn is_past(up: bool, next: i32, dest: i32) -> bool
     ensures { result ≡ is_past up next dest }
 {
     if up { next > dest } else { next < dest }
 }
 
-// Whether it is a ceiling on its way up.
+// Whether a plane is a ceiling on its way up.
 fn is_rising_ceiling(plane: Plane, up: bool) -> bool
     ensures { result ≡ is_rising_ceiling plane up }
 {

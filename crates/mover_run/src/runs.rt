@@ -17,8 +17,9 @@ use light_fx::run_light;
 use map_geometry::Level;
 use std::alloc::Global;
 
-/// One tic of all thinkers, doors, lifts, floors and lights, in the order of their making. It halts (`Unset`) where a door goes up
-/// to a top, or a lift needs a lower end, that was never set. After a halt or want of memory nothing is said of the world.
+/// One tic of all thinkers, doors, lifts, floors and lights, in the order of their making. It halts (`Unset`) where a
+/// door goes up to a top, or a lift needs a lower end, that was never set. After a halt or want of memory nothing is
+/// said of the world.
 pub fn run_thinkers(
     alloc: Global,
     level: &Level,

@@ -1,4 +1,5 @@
--- The lift that a kind makes, and how lifts are stopped and woken. Heights are in fixed point, counts in tics; sums wrap.
+-- The lift that a kind makes, and how lifts are stopped and woken. Heights are in fixed point, counts in tics; sums
+-- wrap.
 use Rattle.std.specs.Prelude.{ℕ, ◌%◌, ◌==◌, ℤ, pos, Bool, true, false, not, nat_lt, ◌&&◌, fold, length, Option, Some, None, if◌then◌else◌}
 use Rattle.std.specs.Int.{int_max}
 use Rattle.std.specs.List.{range_with_len}

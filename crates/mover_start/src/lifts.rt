@@ -21,8 +21,9 @@ const MOST_LIFTS: u32 = 30;
 /// How long a lift waits at an end.
 const LIFT_TICS: i32 = 105;
 
-/// Starts a lift in each sector with the line's tag that names no mover, in the order of sectors. A perpetual lift first
-/// wakes those of its tag that are stopped. True exactly where one started. After `Memory` nothing is said of the world.
+/// Starts a lift in each sector with the line's tag that names no mover, in the order of sectors. A perpetual lift
+/// first wakes those of its tag that are stopped. True exactly where one started. After `Memory` nothing is said of the
+/// world.
 #[tactic(auto, unfolding(crate::specs::Lifts::do_plat_of))]
 pub fn do_plat(
     level: &Level,
@@ -127,7 +128,7 @@ fn start_in(
     Ok(true)
 }
 
-// Starts a lift in a sector.
+// Starts a lift in a sector. It halts (`Lifts`) where 30 are active.
 fn start_lift(
     level: &Level,
     tables: &PlayTables,
@@ -151,7 +152,7 @@ fn start_lift(
     Ok(())
 }
 
-// Begins a lift in a sector, while there is room for one.
+// Begins a lift in a sector, where fewer than 30 are active.
 fn begin_lift(
     level: &Level,
     tables: &PlayTables,
@@ -193,7 +194,7 @@ fn lift_count(level: &Level, world: &World) -> u32
     count
 }
 
-// How many of them there are in a stretch.
+// How many lifts there are among the thinkers of a stretch.
 fn lifts_in(world: &World, stretch: &Stretch) -> u32
     requires live { IsLive world.now }
     requires order { stretch.now.start ≤ stretch.now.end }
@@ -302,7 +303,7 @@ fn lift_wait(kind: PlatKind) -> i32
     }
 }
 
-// What goes up to the next floor takes its sector's special.
+// A lift that goes up to the next floor takes its sector's special.
 #[tactic(auto, using(cow_world::proofs::Keeps::keeps_same))]
 fn make_plain(
     level: &Level,

@@ -22,8 +22,8 @@ const RED: u16 = 4;
 /// Opens the sector behind a line by hand: a door there turns, or a new one starts, also beside one that is there. True
 /// exactly where one did. Without a key of the lock nothing happens.
 ///
-/// It halts (`NoBack`) where nothing lies behind the line, and (`Mover`) where a lift or a floor moves the sector. After
-/// `Memory` nothing is said of the world.
+/// It halts (`NoBack`) where nothing lies behind the line, and (`Mover`) where a lift or a floor moves the sector.
+/// After `Memory` nothing is said of the world.
 #[tactic(auto, unfolding(crate::specs::Manual::manual_door_of), using(cow_world::proofs::Keeps::keeps_same))]
 pub fn manual_door(
     level: &Level,

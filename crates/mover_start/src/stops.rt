@@ -10,8 +10,8 @@ use cow_world::{PlayFault, Stretch, Thinker, World};
 use doom_edge::{Memory, Steps};
 use map_geometry::Level;
 
-/// Stops each lift of a sector with the line's tag, in whatever phase it is. True exactly where one was not stopped yet.
-/// After `Memory` nothing is said of the world.
+/// Stops each lift of a sector with the line's tag, in whatever phase it is. True exactly where one was not stopped
+/// yet. After `Memory` nothing is said of the world.
 #[tactic(auto, unfolding(crate::specs::Lifts::stop_plat_of))]
 pub fn stop_plat(
     level: &Level,

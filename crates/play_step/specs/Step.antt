@@ -28,8 +28,8 @@ next_tic world = raised (parts world).tics 1
 abbrev pub timed : Gridded → Gridded
 timed world = set_tics (set_time world (raised (parts world).time 1)) (next_tic world)
 
--- The parts of a tic, in their order: the buttons that halt; turn and thrust, the sector's special, and use; the move over
--- the map, and the fall; the thinkers; the time. The first halt ends it.
+-- The parts of a tic, in their order: the buttons that halt; turn and thrust, the sector's special, and use; the move
+-- over the map, and the fall; the thinkers; the time. The first halt ends it.
 abbrev pub played : Lists → Tables → Tic → Gridded → Outcome Gridded
 played level tables tic world =
     and_then (pressed tic world)

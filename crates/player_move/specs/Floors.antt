@@ -37,11 +37,12 @@ beaten_by damage finale world = if is_on_beat world then hit_by damage finale wo
 abbrev pub wears_suit : Gridded → Bool
 wears_suit world = nat_lt 0 (player_of world).body.suit
 
--- a suit keeps it off
+-- a hit on the beat, which a suit keeps off
 abbrev pub burned_by : ℤ → Gridded → Outcome Gridded
 burned_by damage world = if wears_suit world then goes world else beaten_by damage false world
 
--- A suit mostly keeps it off: a number is drawn in each tic, and where it is below 5 the hit comes through.
+-- a hit on the beat, which a suit mostly keeps off: a number is drawn in each tic, and where it is below 5 the hit
+-- comes through.
 abbrev pub scalded : Tables → Gridded → Outcome Gridded
 scalded tables world =
     if wears_suit world then (if nat_lt (drawn tables world) 5 then beaten_by (pos 20) false (draw world) else goes (draw world))
@@ -51,7 +52,7 @@ scalded tables world =
 abbrev pub leaves_hurt : Gridded → Gridded
 leaves_hurt world = if int_le (player_of world).body.health (pos 10) then set_exited world 1 else world
 
--- the last floor of an episode
+-- the floor that ends an episode: a hit on the beat, and then, in every tic, who has little health left leaves
 abbrev pub ended_on : Gridded → Outcome Gridded
 ended_on world = and_then (beaten_by (pos 20) true world) (λ hurt. goes (leaves_hurt hurt))
 

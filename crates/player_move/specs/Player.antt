@@ -30,7 +30,8 @@ with_body world body = set_player world (record (player_of world) { body = body 
 abbrev pub with_held : Gridded → Bool → Gridded
 with_held world held = set_player world (record (player_of world) { held = held })
 
--- A call's result is what a part that changes nothing comes to: its answer, or the halt. Of want of memory nothing is said.
+-- A call's result is what a part that changes nothing comes to: its answer, or the halt. Of want of memory nothing is
+-- said.
 abbrev pub Answers : {A : Type 0} → Result A PlayFault → Outcome A → Type 0
 Answers (Ok answer) outcome = outcome ≡ goes answer
 Answers (Err (Halted reason)) outcome = outcome ≡ halts reason

@@ -1,5 +1,5 @@
--- A slide: what a player does whose move was refused. Momenta and fractions are in fixed point; sums and differences wrap
--- in 32 bits.
+-- A slide: what a player does whose move was refused. Momenta and fractions are in fixed point; sums and differences
+-- wrap in 32 bits.
 use Rattle.std.specs.Prelude.{ℕ, zero, suc, ℤ, pos, Bool, true, int_le, Option, Some, None, if◌then◌else◌}
 use Rattle.std.specs.Int.{int_min}
 use Rattle.fixed_angle.specs.Fixed.{mul}

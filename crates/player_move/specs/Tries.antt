@@ -16,8 +16,8 @@ use Rattle.line_specials.specs.Acts.{cross_of}
 use Rattle.player_move.specs.declared.tries.Passage.{Passage}
 use Rattle.player_move.specs.Player.{player_of, set_own_thing}
 
--- A player at this height may not go where this was found: something blocks, the ceiling is less than 56 units, the player's
--- height, above the floor or above the player's feet, or the floor is a step of more than 24 units.
+-- A player at this height may not go where this was found: something blocks, the ceiling is less than 56 units, the
+-- player's height, above the floor or above the player's feet, or the floor is a step of more than 24 units.
 abbrev pub is_refused : ℤ → Checked → Bool
 is_refused z found =
     not found.clear

@@ -139,9 +139,9 @@ fn fly(
 
 /// The player falls or rises by a tic, unless it rests on its floor.
 ///
-/// It comes higher by its momentum in z. On its floor or below it then stands on it, and a momentum down ends; above it, it
-/// is pulled down: from rest at once by 2 units a tic, and else by one unit more. Where it would stick in the ceiling it
-/// then stands below it, and a momentum up ends. After want of memory nothing is said of the world.
+/// It comes higher by its momentum in z. On its floor or below it then stands on it, and a momentum down ends; above
+/// it, it is pulled down: from rest at once by 2 units a tic, and else by one unit more. Where it would stick in the
+/// ceiling it then stands below it, and a momentum up ends. After want of memory nothing is said of the world.
 #[tactic(auto, unfolding(crate::specs::Falls::z_of))]
 pub fn z_move(
     level: &Level,

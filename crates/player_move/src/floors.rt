@@ -18,7 +18,7 @@ use map_geometry::Level;
 /// The points of a hit by the worst floors.
 const WORST: i32 = 20;
 
-/// Who has no more health than this leaves the last level of an episode.
+/// A player with no more health than this leaves on the floor that ends an episode.
 const LAST_HEALTH: i32 = 10;
 
 /// A number below this lets a hit through a suit.
@@ -53,7 +53,7 @@ fn hit(
     }
 }
 
-/// Whether the tic is on the beat, which every 32nd is.
+/// Whether the tic is on the beat: its level time is a multiple of 32.
 fn is_on_beat(world: &World) -> bool
     requires player { HasPlayer world.now }
     ensures { result ≡ is_on_beat world.now }
@@ -119,7 +119,7 @@ fn scald(level: &Level, tables: &PlayTables, world: &mut World) -> Result<(), Pl
     beat(level, tables, world, WORST, false)
 }
 
-/// Who has little health left leaves the level.
+/// A player with little health left leaves the level.
 fn leave_hurt(world: &mut World)
     requires player { HasPlayer world.old }
     ensures ok { world.new ≡ leaves_hurt world.old }
@@ -130,7 +130,7 @@ fn leave_hurt(world: &mut World)
     }
 }
 
-/// The last floor of an episode.
+/// The floor that ends an episode: a hit on the beat, and then, in every tic, a player with little health leaves.
 fn end_on(level: &Level, tables: &PlayTables, world: &mut World) -> Result<(), PlayFault>
     requires fits { Fits level.now tables.now world.old }
     ensures moves { Moves result world.new (ended_on world.old) }

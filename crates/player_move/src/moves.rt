@@ -210,9 +210,9 @@ fn move_slowing(
 
 /// The player moves by its momentum, unless it stands still.
 ///
-/// Its momentum is at most 30 units along each axis. A move that leads more than 15 units up an axis is made in two halves.
-/// Where a part is refused the player slides. Parts that are left after a teleport are tried from where the player then
-/// stands. Then friction slows it, but not in the air; a slow player that holds no key stands.
+/// Its momentum is at most 30 units along each axis. A move that leads more than 15 units up an axis is made in two
+/// halves. Where a part is refused the player slides. Parts that are left after a teleport are tried from where the
+/// player then stands. Then friction slows it, but not in the air; a slow player that holds no key stands.
 ///
 /// # Errors
 ///

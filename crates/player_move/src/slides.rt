@@ -288,7 +288,8 @@ fn slide_once(
     }
 }
 
-/// The player, whose move was refused, slides: it comes near to what stops it and goes on along that, in two passes at most.
+/// The player, whose move was refused, slides: it comes near to what stops it and goes on along that, in two passes at
+/// most.
 pub fn slide(
     alloc: Global,
     level: &Level,

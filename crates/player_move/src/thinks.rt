@@ -192,8 +192,8 @@ fn age(world: &mut World)
     set_body(world, &body);
 }
 
-/// What the player does in a tic before it moves: it turns and is driven by the keys, feels the floor on which it stands,
-/// and uses what it looks at where the use button is pressed and was not held before. Then its suit and its
+/// What the player does in a tic before it moves: it turns and is driven by the keys, feels the floor on which it
+/// stands, and uses what it looks at where the use button is pressed and was not held before. Then its suit and its
 /// invulnerability wear off by a tic.
 ///
 /// # Errors

@@ -213,10 +213,10 @@ fn settle(
 
 /// The player tries to move to a place, in fixed point, and whether it went.
 ///
-/// What it touches there it takes, also where it is refused: because something blocks, the ceiling is too low over the floor
-/// or over the player's feet, or the floor is a step of more than 24 units. Where it goes, it stands between the floor and
-/// the ceiling that were found, is linked anew, and crosses the listed lines that still have a special and on whose other
-/// side it came, from the last to the first. A teleport ends them.
+/// What it touches there it takes, also where it is refused: because something blocks, the ceiling is too low over the
+/// floor or over the player's feet, or the floor is a step of more than 24 units. Where it goes, it stands between the
+/// floor and the ceiling that were found, is linked anew, and crosses the listed lines that still have a special and on
+/// whose other side it came, from the last to the first. A teleport ends them.
 ///
 /// # Errors
 ///

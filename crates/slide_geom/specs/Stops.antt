@@ -9,8 +9,8 @@ use Rattle.cow_world.specs.declared.gaps.Gap.{Gap}
 use Rattle.cow_world.specs.Flat.{Gridded}
 use Rattle.cow_world.specs.Gaps.{gap_of}
 
--- A gap is too narrow for a player who stands at a height: it is lower than the player, who is 56 units high, or its top is
--- less than that above the player's feet, or its bottom is a step of more than 24 units.
+-- A gap is too narrow for a player who stands at a height: it is lower than the player, who is 56 units high, or its
+-- top is less than that above the player's feet, or its bottom is a step of more than 24 units.
 abbrev pub is_narrow : ℤ → Gap → Bool
 is_narrow z gap = int_lt gap.range (pos 3670016) || (int_lt (less gap.top z) (pos 3670016) || int_lt (pos 1572864) (less gap.bottom z))
 

@@ -20,8 +20,8 @@ trace_of level x1 y1 x2 y2 =
 abbrev pub trace_along : Lists → DivLine → Outcome (List (ℤ × ℕ))
 trace_along level way = trace_of level way.x way.y (plus way.x way.dx) (plus way.y way.dy)
 
--- A call's result is what a trace comes to: it left the lines that the trace meets where that goes on, and is a fault where
--- it halts. Of want of memory nothing is said.
+-- A call's result is what a trace comes to: it left the lines that the trace meets where that goes on, and is a fault
+-- where it halts. Of want of memory nothing is said.
 abbrev pub Traces : {D A : Type 0} → Result D TraceFault → A → Outcome A → Type 0
 Traces (Ok done) met outcome = outcome ≡ goes met
 Traces (Err fault.Intercepts) met outcome = outcome ≡ halts halt.Intercepts

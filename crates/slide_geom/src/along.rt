@@ -68,8 +68,8 @@ fn slanting_along(tables: &PlayTables, lead: u32, dx: i32, dy: i32) -> (i32, i32
     way_at(tables, lead, length_along(tables, lead, dx, dy))
 }
 
-/// The part of a move along a line, in fixed point, for a player on a side of it: 0 the front, 1 the back. Along a level
-/// line the part in y falls away, along an upright one that in x.
+/// The part of a move along a line, in fixed point, for a player on a side of it: 0 the front, 1 the back. Along a
+/// level line the part in y falls away, along an upright one that in x.
 #[tactic(auto, unfolding(crate::specs::Along::along_of))]
 pub fn clip_along(tables: &PlayTables, line: &Line, side: u32, dx: i32, dy: i32) -> (i32, i32)
     requires { side < 2 }

@@ -107,13 +107,13 @@ fn best_for(
     Ok(nearer(nearer(first, second), third))
 }
 
-/// How much of a move by its momentum the player may make before a line stops it, in fixed point, and the number of that
-/// line. `None` where nothing stops it.
+/// How much of a move by its momentum the player may make before a line stops it, in fixed point, and the number of
+/// that line. `None` where nothing stops it.
 ///
-/// The player's box is traced from three of its corners: the one that leads the way, and the two beside it. A line of one
-/// side stops the player from its front. A line of two sides does where the gap is too narrow for the player, or begins
-/// more than 24 units above the player's feet. The nearest counts; of two that are equally near, the one that the earlier
-/// trace met.
+/// The player's box is traced from three of its corners: the one that leads the way, and the two beside it. A line of
+/// one side stops the player from its front. A line of two sides does where the gap is too narrow for the player, or
+/// begins more than 24 units above the player's feet. The nearest counts; of two that are equally near, the one that
+/// the earlier trace met.
 ///
 /// # Errors
 ///

@@ -21,8 +21,8 @@ fn trace_between(
     trace(level, x1, y1, x2, y2, out)
 }
 
-/// Replaces `out` by the lines that a trace along a way meets, each with the fraction of the way at which it does, in the
-/// order of the fractions. Nothing is said of `out` after a fault.
+/// Replaces `out` by the lines that a trace along a way meets, each with the fraction of the way at which it does, in
+/// the order of the fractions. Nothing is said of `out` after a fault.
 ///
 /// # Errors
 ///
