@@ -198,8 +198,8 @@ pushed made revived kept to placed =
     let grown = kept ++ entry_at made to ∷ [] in
     let new : thinker_in revived grown made ≡ to = rw (not_made made revived placed.others, push_here kept made to (not_made made kept placed.places)) refl in
     let others : map (thinker_in revived grown) (range_with_len 0 made) ≡ spread made revived kept =
-        same_spread (thinker_in revived grown) (thinker_in revived kept) made Ended
-        (λ i below. rw (push_there kept made i to (λ same. omega (arith, below, same))) refl) in
+    same_spread (thinker_in revived grown) (thinker_in revived kept) made Ended
+    (λ i below. rw (push_there kept made i to (λ same. omega (arith, below, same))) refl) in
     map-range_with_len_more (thinker_in revived grown) 0 made made (zero-add made) ∙ rw (new, others) refl
 
 made_more : (made : ℕ) (entries : List Placed) → AreMade made entries → AreMade (made + 1) entries
@@ -249,9 +249,9 @@ rise-tail entry rest rise = λ a b d before below. rise (suc a) (suc b) d (omega
 none_behind : (entry : Placed) (rest : List Placed) (i : ℕ) → Rise (entry ∷ rest) → stands_at i entry ≡ true → find (stands_at i) rest ≡ None
 none_behind entry rest i rise own =
     find_fails (stands_at i) rest (All-from_get_or (λ (other : Placed). stands_at i other ≡ false) rest no_entry (λ k below.
-      let at : entry.place ≡ i = eqb-true entry.place i own in
-      let above : entry.place < (get_or rest k no_entry).place = rise 0 (suc k) no_entry (omega arith) (omega (arith, below)) in
-      ne_eqb (get_or rest k no_entry).place i (λ same. omega (arith, at, above, same))))
+    let at : entry.place ≡ i = eqb-true entry.place i own in
+    let above : entry.place < (get_or rest k no_entry).place = rise 0 (suc k) no_entry (omega arith) (omega (arith, below)) in
+    ne_eqb (get_or rest k no_entry).place i (λ same. omega (arith, at, above, same))))
 
 running_same : (kept : List Placed) (i : ℕ) → Rise kept → thinker_of (find (stands_at i) (filter is_running kept)) ≡ thinker_of (find (stands_at i) kept)
 running_same [] i rise = refl
@@ -342,11 +342,11 @@ module _ (kept : List Placed) (rise : Rise kept) where
 pub ended_between : (made : ℕ) (kept : List Placed) (from start k : ℕ) → ((j : ℕ) → j < k → (get_or kept j no_entry).place < from) → ((j : ℕ) → k ≤ j → j < length kept → start ≤ (get_or kept j no_entry).place) → start ≤ made → (i : ℕ) → from ≤ i → i < start → get_or (spread made [] kept) i Ended ≡ Ended
 ended_between made kept from start k before behind within i above below =
     let none : find (stands_at i) kept ≡ None =
-        find_fails (stands_at i) kept (All-from_get_or (λ (entry : Placed). stands_at i entry ≡ false) kept no_entry (λ j there.
-          ne_eqb (get_or kept j no_entry).place i (λ same. elim (cases_lt j k) [
-            | inl under ↦ omega (arith, same, above, before j under)
-            | inr over ↦ omega (arith, same, below, behind j over there)
-          ]))) in
+    find_fails (stands_at i) kept (All-from_get_or (λ (entry : Placed). stands_at i entry ≡ false) kept no_entry (λ j there.
+    ne_eqb (get_or kept j no_entry).place i (λ same. elim (cases_lt j k) [
+      | inl under ↦ omega (arith, same, above, before j under)
+      | inr over ↦ omega (arith, same, below, behind j over there)
+    ]))) in
     get_or-map-range_with_len (thinker_in [] kept) 0 made i i Ended (omega (arith, below, within)) (zero-add i) ∙ ap thinker_of none
 
 -- ---- steps

@@ -27,9 +27,9 @@ mod world;
 pub use fault::PlayFault;
 pub use gaps::Gap;
 pub use grid::Grid;
+pub use kept_thinkers::Stretch;
 pub use kinds::{DoorKind, FloorKind, GlowKind, LightKind, Plane, PlatKind};
 pub use link_order::{FEW_THINGS, Things};
-pub use kept_thinkers::Stretch;
 pub use records::{DoorPhase, LiftPhase, Player, Sector, Thing, Thinker};
 pub use shapes::{
     HANGS, MONSTER, NOT_LINKED, PLAYER_SHAPE, SHOOTABLE, SOLID, SPECIAL, Shape, has_bit,

@@ -82,12 +82,7 @@ impl Lists {
     }
 
     // The lists that these bases are, and thinkers over theirs, with the thing at a place beside the others, if there is one.
-    fn of(
-        alloc: Global,
-        bases: Bases,
-        thinkers: KeptThinkers,
-        place: u32,
-    ) -> Result<Lists, Memory>
+    fn of(alloc: Global, bases: Bases, thinkers: KeptThinkers, place: u32) -> Result<Lists, Memory>
         requires few { length bases.things.items < 2 ^ 32 }
         requires thinkers { IsKeptThinkers bases.thinkers.items thinkers }
         ensures { IfOk result (λ lists. lists ≡ lists_of bases thinkers) }

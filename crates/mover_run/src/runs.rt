@@ -19,8 +19,28 @@ use std::alloc::Global;
 
 /// One tic of all thinkers, doors, lifts, floors and lights, in the order of their making. It halts (`Unset`) where a
 /// door goes up to a top, or a lift needs a lower end, that was never set. After a halt or want of memory nothing is
-/// said of the world.
+/// said of the world. At the end the world lets go of those that have ended, if they are many.
 pub fn run_thinkers(
+    alloc: Global,
+    level: &Level,
+    tables: &PlayTables,
+    world: &mut World,
+    steps: &mut Steps,
+) -> Result<(), PlayFault>
+    requires fits { Fits level.now tables.now world.old }
+    ensures moves { Moves result world.new (run_thinkers_of level.now tables.now world.old) }
+    ensures fits { OnOk result (Fits level.now tables.now world.new) }
+
+    ensures tics { steps.new.tics ≡ steps.old.tics }
+    ensures pages { steps.old.pages ≤ steps.new.pages }
+{
+    run_all(alloc, level, tables, world, steps)?;
+    world.forget_ended(steps)?;
+    Ok(())
+}
+
+// One tic of all thinkers, from one stretch of those that run to the next.
+fn run_all(
     alloc: Global,
     level: &Level,
     tables: &PlayTables,

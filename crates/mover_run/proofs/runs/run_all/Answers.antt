@@ -4,7 +4,7 @@ use Rattle.clip_check.proofs.Halts.{moves_on}
 use Rattle.mover_run.specs.Runs.{run_thinker_of}
 use Rattle.mover_run.proofs.Each.{stretch_next, stretch_halts}
 use Rattle.mover_run.proofs.Running.{runs_first, runs_idle}
-use Rattle.mover_run.proofs.runs.run_thinkers.Goals as goal
+use Rattle.mover_run.proofs.runs.run_all.Goals as goal
 
 pub loop-from-init : goal.loop-from-init
 loop-from-init c = record {

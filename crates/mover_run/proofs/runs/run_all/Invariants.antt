@@ -5,7 +5,7 @@ use Rattle.cow_world.specs.Flat.{parts}
 use Rattle.cow_world.specs.Fits.{Fits}
 use Rattle.cow_world.specs.Outcome.{each_from}
 use Rattle.mover_run.specs.Runs.{run_thinker_of, run_thinkers_of}
-use Rattle.mover_run.proofs.runs.run_thinkers.Given as goal
+use Rattle.mover_run.proofs.runs.run_all.Given as goal
 
 abbrev pub decreases-loop-from : goal.decreases-loop-from
 decreases-loop-from l = l.all - l.from
