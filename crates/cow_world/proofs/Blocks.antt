@@ -1,15 +1,13 @@
 -- The things of a block and of many, by the fields of a world.
-use Rattle.std.proofs.Common.{◌≡◌, ◌<◌, ◌++◌, ℕ, ℤ, filter, length, get_or, None, Some, All, List, [], ◌∷◌, refl, sym, ap, ◌∙◌, subst}
+use Rattle.std.proofs.Common.{◌≡◌, ◌<◌, ℕ, ℤ, filter, length, get_or, None, Some, All, [], refl, sym, ap, ◌∙◌}
 use Rattle.std.specs.Prelude.{◌&&◌, false}
-use Rattle.std.specs.List.{flat_map}
-use Rattle.std.proofs.lemmas.List.Elements.{All-nil, All-same, All-append}
+use Rattle.std.proofs.lemmas.List.Elements.{All-same}
 use Rattle.map_geometry.specs.declared.blocks.Block.{Block}
 use Rattle.map_geometry.specs.declared.blocks.BlockBox.{BlockBox}
 use Rattle.map_geometry.specs.Lists.{Lists}
 use Rattle.map_geometry.specs.Blocks.{is_in_grid, blocks_in, cut_to_grid}
 use Rattle.map_geometry.proofs.Walked.{cut_blocks}
 use Rattle.link_order.specs.Links.{block_things}
-use Rattle.cow_world.specs.declared.grid.Grid.{Grid}
 use Rattle.cow_world.specs.declared.world.World.TheInside.{Inside}
 use Rattle.cow_world.specs.Flat.{Live, Gridded, IsLive, parts, no_thing, grid_of}
 use Rattle.cow_world.specs.Kept.{IsKept, things_of, world_in}

@@ -1,5 +1,5 @@
 -- The pages of a world's lists, and the steps that its fork takes.
-use Rattle.std.proofs.Common.{◌≡◌, ℕ, ◌+◌, ◌*◌, ◌≤◌, length, Option, Some, None, refl, arith}
+use Rattle.std.proofs.Common.{◌≡◌, ℕ, ◌+◌, ◌*◌, ◌≤◌, Option, Some, None, refl, arith}
 use Rattle.game_trait.specs.declared.shown.Halt.{Halt}
 use Rattle.cow_world.specs.declared.world.World.TheInside.{Inside}
 use Rattle.cow_world.specs.Flat.{Gridded, page_sum, item_sum}

@@ -1,15 +1,15 @@
 -- What is gathered along lines is what is gathered among neighbours.
-use Rattle.std.proofs.Common.{◌≡◌, ◌≢◌, ℕ, ◌+◌, ◌-◌, ◌<◌, length, sub-one, zero, suc, ℤ, Bool, true, false, List, [], ◌∷◌, take, drop, get_or, map, Option, Some, None, refl, sym, ap, ◌∙◌, inl, inr, arith}
-use Rattle.std.specs.Prelude.{fold, filter, unwrap_or, int_lt, option_and_then}
+use Rattle.std.proofs.Common.{◌≡◌, ◌≢◌, ℕ, ◌+◌, ◌-◌, ◌<◌, length, sub-one, zero, suc, ℤ, List, [], ◌∷◌, take, drop, get_or, map, Option, Some, None, refl, ap, ◌∙◌, inl, inr}
+use Rattle.std.specs.Prelude.{fold, filter, unwrap_or, int_lt}
 use Rattle.std.specs.Option.{option_map_or}
 use Rattle.std.specs.Int.{int_min}
 use Rattle.std.specs.List.{filter_map}
 use Rattle.std.proofs.lemmas.Bool.{cases_Bool}
 use Rattle.std.proofs.lemmas.List.{drop_more}
 use Rattle.map_geometry.specs.Lists.{Lists, nth_line}
-use Rattle.map_geometry.specs.Sectors.{neighbour_across, lines_of, neighbours}
+use Rattle.map_geometry.specs.Sectors.{neighbour_across, lines_of}
 use Rattle.cow_world.specs.Flat.{Gridded, sector_at}
-use Rattle.cow_world.specs.Around.{lesser, least_of, higher_than, higher_across, higher_floors, next_floor}
+use Rattle.cow_world.specs.Around.{lesser, least_of, higher_across, next_floor}
 
 -- a fold over what some of a list have
 pub fold_some : {X Y A : Type 0} (part : A → Y → A) (of : X → Option Y) (a : A) (xs : List X) → fold (λ so_far x. option_map_or (part so_far) (of x) so_far) a xs ≡ fold part a (filter_map of xs)

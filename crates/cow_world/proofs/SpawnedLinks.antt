@@ -1,19 +1,18 @@
 -- Things that are linked one after the other, before any other was.
-use Rattle.std.proofs.Common.{◌≡◌, ◌≢◌, ℕ, suc, ◌+◌, ◌*◌, ◌<◌, ◌==◌, List, [], ◌∷◌, ◌++◌, length, get_or, set, map, All, Option, None, refl, sym, ap, ◌∙◌, subst, arith, append_assoc}
+use Rattle.std.proofs.Common.{◌≡◌, ◌≢◌, ℕ, suc, ◌<◌, ◌==◌, List, [], ◌∷◌, ◌++◌, length, get_or, set, map, All, refl, sym, ap, ◌∙◌, arith, append_assoc}
 use Rattle.std.specs.Prelude.{not, filter, fold}
 use Rattle.std.specs.List.{AllPairs}
 use Rattle.std.proofs.lemmas.Bool.{ne_eqb}
 use Rattle.std.proofs.lemmas.List.{map-append, append-nil, set-get_or}
 use Rattle.std.proofs.lemmas.List.Elements.{All-nil, All-cons, All-head, All-tail, All-append, All-weaker}
 use Rattle.std.proofs.lemmas.List.Quantifiers.{all_pairs_push}
-use Rattle.game_trait.specs.declared.shown.Halt.{Halt}
 use Rattle.link_order.specs.declared.linked.Linked.{Linked}
 use Rattle.link_order.specs.Links.{EachOnce}
 use Rattle.cow_world.specs.declared.records.Thing.{Thing}
 use Rattle.cow_world.specs.declared.grid.Grid.{Grid}
 use Rattle.cow_world.specs.Flat.{Live, Flat, live, halted, Gridded, IsLive, IsLiveFlat, parts, parts_of, with_parts, no_thing, first_in}
 use Rattle.cow_world.specs.Kept.{IsEntry, things_of}
-use Rattle.cow_world.specs.Spawned.{link_here, link_all, latest, entry_at}
+use Rattle.cow_world.specs.Spawned.{link_all, latest, entry_at}
 
 rising_tail : (x : ℕ) (xs : List ℕ) → AllPairs (λ one other. one < other) (x ∷ xs) → AllPairs (λ one other. one < other) xs
 rising_tail x xs rising = λ i j d before below. rising (suc i) (suc j) d (omega (arith, before)) (omega (arith, below))

@@ -1,5 +1,5 @@
 -- A world fits a level and play tables.
-use Rattle.std.specs.Prelude.{◌≡◌, ◌≢◌, ℕ, ◌<◌, ◌≤◌, pos, ◌<ℤ◌, length, Option, Some, None, IfSome, IsSome, IsTrue, refl}
+use Rattle.std.specs.Prelude.{◌≡◌, ◌≢◌, ℕ, ◌<◌, ◌≤◌, pos, ◌<ℤ◌, length, Some, IfSome, IsSome, IsTrue}
 use Rattle.fixed_angle.specs.Tables.{Tables, kind_with}
 use Rattle.map_geometry.specs.Lists.{Lists}
 use Rattle.cow_world.specs.declared.records.Sector.{Sector}

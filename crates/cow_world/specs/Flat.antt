@@ -1,6 +1,6 @@
 -- The flat world: what a world means, in plain lists. Its readers and writers have the names of the calls that do the
 -- same; a reader that calls a place that is not there is given an entry of zeros, on which nothing rests.
-use Rattle.std.specs.Prelude.{◌≡◌, ◌≢◌, ◌==◌, ℕ, ◌+◌, ℤ, pos, Bool, false, not, List, [], ◌∷◌, ◌++◌, length, map, filter, Option, Some, None, slice_index, slice_index_or, slice_set, if◌then◌else◌}
+use Rattle.std.specs.Prelude.{◌==◌, ℕ, ◌+◌, ℤ, pos, Bool, false, not, List, [], ◌∷◌, ◌++◌, length, map, filter, Option, Some, None, slice_index, slice_index_or, slice_set}
 use Rattle.std.specs.List.{list_any}
 use Rattle.page_store.specs.Pages.{page_count}
 use Rattle.map_geometry.specs.declared.records.Ground.{Ground}

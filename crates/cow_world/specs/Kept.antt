@@ -4,7 +4,6 @@ use Rattle.game_trait.specs.declared.shown.Halt.{Halt}
 use Rattle.link_order.specs.declared.linked.Linked.{Linked}
 use Rattle.cow_world.specs.declared.records.Sector.{Sector}
 use Rattle.cow_world.specs.declared.records.Thing.{Thing}
-use Rattle.cow_world.specs.declared.records.Thinker.{Thinker}
 use Rattle.cow_world.specs.declared.grid.Grid.{Grid}
 use Rattle.cow_world.specs.declared.world.World.TheInside.{Inside}
 use Rattle.cow_world.specs.Thinkers.{sector_of}

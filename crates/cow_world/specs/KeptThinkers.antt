@@ -1,5 +1,5 @@
 -- The thinkers of a world as they are kept: those that have ended may be left out.
-use Rattle.std.specs.Prelude.{◌≡◌, ℕ, ◌<◌, ◌≤◌, ◌==◌, Bool, true, false, not, List, map, length, find, All, Option, Some, None}
+use Rattle.std.specs.Prelude.{ℕ, ◌<◌, ◌≤◌, ◌==◌, Bool, true, false, not, List, map, length, find, All, Option, Some, None}
 use Rattle.std.specs.List.{range_with_len, AllPairs}
 use Rattle.std.specs.Option.{option_or}
 use Rattle.page_store.specs.Over.{seen, IsOver}

@@ -1,5 +1,5 @@
 -- What a thinker is about.
-use Rattle.std.specs.Prelude.{ℕ, ◌<◌, Bool, true, false, List, count_by, Option, Some, None, IfSome}
+use Rattle.std.specs.Prelude.{ℕ, Bool, true, false, List, count_by, Option, Some, None}
 use Rattle.cow_world.specs.declared.records.Thinker.{Thinker}
 use Rattle.cow_world.specs.declared.records.Thinker.TheVariants.{Door, Lift, Floor, Light, Ended}
 

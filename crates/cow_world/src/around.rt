@@ -88,8 +88,8 @@ impl World {
         self.height_around(level, sector, Height::HighestFloor, DEEP)
     }
 
-    /// The lowest of the neighbours' floors that are above the sector's, of which the first 20 are looked at in the order
-    /// of lines; the sector's own where there are none.
+    /// The lowest of the neighbours' floors that are above the sector's, of which the first 20 are looked at in the
+    /// order of lines; the sector's own where there are none.
     pub fn next_floor_around(&self, level: &Level, sector: u32) -> i32
         requires fits { FitsLevel level.now self.now }
         requires there { sector < length level.now.sectors }

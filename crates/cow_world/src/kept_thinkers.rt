@@ -1,17 +1,17 @@
 //! The thinkers of a world as they are kept: those that have ended may be left out.
-ghost use Rattle.std.specs.Prelude.{◌≡◌, ℕ, ◌+◌, ◌*◌, ◌<◌, ◌≤◌, ◌^◌, ◌≢◌, IsTrue, IsFalse, List, [], ◌∷◌, ◌++◌, length, filter, position, slice_get, slice_index_or, slice_set, if◌then◌else◌, Some, OnOk, OnErr, IfOk};
+ghost use Rattle.std.specs.Prelude.{◌≡◌, ℕ, ◌+◌, ◌*◌, ◌<◌, ◌≤◌, ◌^◌, ◌≢◌, IsTrue, IsFalse, List, [], ◌∷◌, ◌++◌, length, filter, position, slice_get, slice_index_or, slice_set, Some, OnOk, OnErr, IfOk};
 ghost use Rattle.page_store.specs.Pages.{page_count};
 ghost use Rattle.page_store.specs.Over.{seen, IsOver};
 ghost use Rattle.cow_world.specs.declared.records.Thinker.TheVariants.{Ended};
 ghost use Rattle.cow_world.specs.declared.kept_thinkers.Placed.{Placed as PlacedValue};
-ghost use Rattle.cow_world.specs.KeptThinkers.{stands_at, has_ended, is_running, entry_at, no_entry, Rise, AreMade, thinkers_in, IsKeptThinkers};
+ghost use Rattle.cow_world.specs.KeptThinkers.{stands_at, has_ended, is_running, no_entry, Rise, AreMade, thinkers_in, IsKeptThinkers};
 
 use crate::records::Thinker;
 use doom_edge::{Memory, Steps};
 use page_store::Pages;
 use std::alloc::Global;
 
-// So many ended thinkers are kept at all times.
+// Fewer that have ended are not worth a new list.
 const FEW_ENDED: u32 = 32;
 
 /// The places from `start` on, up to the one before `end`.
@@ -28,15 +28,16 @@ pub(crate) struct Placed {
     thinker: Thinker,
 }
 
-// The thinkers of a world, of which so many were made. A place that is not kept has ended. The kept ones stand in the order
-// of their places, in pages over a base that stands elsewhere and is passed to each call; as long as none was left out, or
-// only later ones were, a thinker stands at its place. One that came back to life after it was left out stands among the
-// revived, which no rule of play brings about.
+// The thinkers of a world, of which so many were made. A place that is not kept has ended. The kept ones stand in the
+// order of their places, in pages over a base that stands elsewhere and is passed to each call; as long as none was
+// left out, or only later ones were, a thinker stands at its place. One that came back to life after it was left out
+// stands among the revived, which no rule of play brings about.
 #[derive(Drop)]
 pub(crate) struct KeptThinkers {
     made: u32,
     kept: Pages<Placed>,
     revived: Vec<Placed>,
+    // How many have ended since some were last left out. Nothing but the time to leave some out rests on it.
     ended: u32,
 }
 
@@ -219,8 +220,8 @@ impl KeptThinkers {
         Ok((entries, own))
     }
 
-    // The next places from one on whose thinkers may be running: those before them have ended. It is empty exactly where no
-    // more may be.
+    // The next places from one on whose thinkers may be running: those before them have ended. It is empty exactly
+    // where no more may be.
     pub(crate) fn stretch_from(&self, base: &[Placed], from: u32) -> Stretch
         requires list { IsKeptThinkers base.now self.now }
         requires there { from ≤ length (thinkers_in base.now self.now) }
@@ -256,8 +257,9 @@ impl KeptThinkers {
         self.revived.is_empty() && self.kept.len() < self.made as usize
     }
 
-    // Leaves out the thinkers that have ended, once they are many and at least half of those that are kept. So what is kept
-    // is at most twice those that run and some more, and each that ends costs a few steps. On `Memory` all is as before.
+    // Leaves out the thinkers that have ended, once they are many and at least half of those that are kept. So what is
+    // kept is at most twice those that run and some more, and each that ends costs a few steps. On `Memory` all is as
+    // before.
     pub(crate) fn forget_ended(&mut self, base: &[Placed], steps: &mut Steps) -> Result<(), Memory>
         requires { IsKeptThinkers base.now self.old }
         ensures list { IsKeptThinkers base.now self.new }

@@ -4,6 +4,9 @@
 //! and on want of memory nothing. What the rules of play do to a world is said in terms of the definitions in
 //! `specs/Flat.antt`, which have the names of the calls; `specs/Outcome.antt` says what a part of a tic comes to, and
 //! `specs/Fits.antt` what a world has to be for the rules.
+//!
+//! A rule takes the level and the play tables that its world fits, and says that the world fits them afterwards. Where
+//! it reads neither, `let _level = level;` tells the compiler so: they are there for the contract alone.
 #![tactic(auto)]
 
 mod around;

@@ -25,8 +25,8 @@ pub(crate) struct Bases {
     thinkers: Vec<Placed>,
 }
 
-// The sectors, the line specials, the things and the thinkers of a world. One `Arc` holds all that they were made of, so
-// that a fork raises one count of owners, and beside it each list has what was written of it since.
+// The sectors, the line specials, the things and the thinkers of a world. One `Arc` holds all that they were made of,
+// so that a fork raises one count of owners, and beside it each list has what was written of it since.
 //
 // One thing stands beside the others, the player's, which is written in nearly every tic; what the pages have at its
 // place is out of date. So a tic in which the player alone moves writes no page.
@@ -81,7 +81,8 @@ impl Lists {
         Lists::of(alloc, bases, KeptThinkers::none(alloc), NO_PLACE)
     }
 
-    // The lists that these bases are, and thinkers over theirs, with the thing at a place beside the others, if there is one.
+    // The lists that these bases are, and thinkers over theirs, with the thing at a place beside the others, if there
+    // is one.
     fn of(alloc: Global, bases: Bases, thinkers: KeptThinkers, place: u32) -> Result<Lists, Memory>
         requires few { length bases.things.items < 2 ^ 32 }
         requires thinkers { IsKeptThinkers bases.thinkers.items thinkers }

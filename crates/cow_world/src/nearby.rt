@@ -10,9 +10,9 @@ use link_order::Things;
 use map_geometry::{BlockBox, Level};
 
 impl World {
-    /// Appends the things in the blocks of a box that were linked and are present: block by block, column by column from
-    /// the left and each column from the bottom, and in a block the last linked first. It takes no memory as long as
-    /// `out` holds no more than `FEW_THINGS`, and about the time of the blocks that lie in the grid. After `Memory`
+    /// Appends the things in the blocks of a box that were linked and are present: block by block, column by column
+    /// from the left and each column from the bottom, and in a block the last linked first. It takes no memory as long
+    /// as `out` holds no more than `FEW_THINGS`, and about the time of the blocks that lie in the grid. After `Memory`
     /// nothing is said of `out`.
     pub fn things_in(
         &self,

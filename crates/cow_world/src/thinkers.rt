@@ -29,8 +29,8 @@ impl World {
         self.lists.thinker(i)
     }
 
-    /// The next places from one on whose thinkers may be live: those before them have ended. It is empty exactly where no
-    /// more may be.
+    /// The next places from one on whose thinkers may be live: those before them have ended. It is empty exactly where
+    /// no more may be.
     pub fn stretch_from(&self, from: u32) -> Stretch
         requires live { IsLive self.now }
         requires there { from ≤ length (parts self.now).thinkers }
@@ -44,8 +44,8 @@ impl World {
     }
 
     /// Lets go of thinkers that have ended, once they are at least half of those that are kept; the world means what it
-    /// meant. What ended lies among as many others at most, so that neither a tic nor a fork nor a kept world grows with
-    /// all that ever ended. On `Memory` the world is as before.
+    /// meant. What ended lies among as many others at most, so that neither a tic nor a fork nor a kept world grows
+    /// with all that ever ended. On `Memory` the world is as before.
     pub fn forget_ended(&mut self, steps: &mut Steps) -> Result<(), Memory>
         requires { IsLive self.old }
         ensures kept { self.new ≡ self.old }

@@ -26,9 +26,9 @@ use std::marker::Model;
 /// - the lines that acted in the last step;
 /// - the player, the random index, the level time, the number of tics, and how the level was left.
 ///
-/// Each place that it keeps is in range. Its lists lie in pages that forks share; of its thinkers those that have ended may
-/// be left out, which `forget_ended` does and which changes nothing that a world means. After want of memory a world is as
-/// it was before the call, but for `end_mover`, which says what it may have done.
+/// Each place that it keeps is in range. Its lists lie in pages that forks share; of its thinkers those that have ended
+/// may be left out, which `forget_ended` does and which changes nothing that a world means. After want of memory a
+/// world is as it was before the call, but for `end_mover`, which says what it may have done.
 #[derive(Drop)]
 pub struct World {
     pub(crate) lists: Lists,
@@ -132,8 +132,8 @@ impl World {
     }
 
     /// Gives the world pages of its own, so that no later write or fork of it touches a count of owners that another
-    /// world moves. Its things and their links begin anew as they stand, with the player's thing beside the others: what
-    /// is done to that writes no page from then on. On `Memory` the world means what it meant.
+    /// world moves. Its things and their links begin anew as they stand, with the player's thing beside the others:
+    /// what is done to that writes no page from then on. On `Memory` the world means what it meant.
     pub fn own_pages(&mut self, steps: &mut Steps) -> Result<(), Memory>
         ensures kept { self.new ≡ self.old }
 

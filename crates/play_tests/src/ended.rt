@@ -1,4 +1,4 @@
-//! The stretches of places that a world tells of, while its movers end.
+//! How much a world keeps of movers that have ended.
 ghost use Rattle.std.specs.Prelude.{OnOk};
 ghost use Rattle.play_tests.specs.Open.{IsOpen};
 
@@ -16,20 +16,21 @@ const FLOOR: Thinker = Thinker::Floor {
     dest: 0,
 };
 
-/// In which order the movers at six places end: from the first on, from the last on, each second one before the others,
-/// and mixed.
-const ORDERS: [[u32; 6]; 4] = [
-    [0, 1, 2, 3, 4, 5],
-    [5, 4, 3, 2, 1, 0],
-    [1, 3, 5, 0, 2, 4],
-    [4, 0, 2, 3, 1, 5],
-];
+/// How many movers there are.
+const COUNT: u32 = 100;
 
-fn push_six(level: &Level, world: &mut World, steps: &mut Steps) -> Result<(), Memory>
+/// In which order they end: the k-th is the one at k times so many places, in turns. So from the first on, from the last
+/// on, each third one, and mixed.
+const STRIDES: [u32; 4] = [1, 99, 3, 37];
+
+/// Of 100, 50 that have ended are half; of the 50 that are left 32 are more than half; the last 18 are too few.
+const KEPT: u64 = 18;
+
+fn push_all(level: &Level, world: &mut World, steps: &mut Steps) -> Result<(), Memory>
     requires { IsOpen level.now world.old }
     ensures { OnOk result (IsOpen level.now world.new) }
 {
-    for _ in 0..6 {
+    for _ in 0..COUNT {
         world.push_thinker(FLOOR, steps)?;
     }
     Ok(())
@@ -42,48 +43,44 @@ fn end(level: &Level, world: &mut World, place: u32, steps: &mut Steps) -> Resul
     if place < world.thinker_count() {
         world.set_thinker(place, Thinker::Ended, steps)?;
     }
-    Ok(())
+    world.forget_ended(steps)
 }
 
-/// Whether from each place on the world tells of the next live ones, up to one that has ended, and of no other.
-fn tells(level: &Level, world: &World) -> bool
-    requires { IsOpen level.now world.now }
+fn end_all(level: &Level, world: &mut World, stride: u32, steps: &mut Steps) -> Result<(), Memory>
+    requires { IsOpen level.now world.old }
+    ensures { OnOk result (IsOpen level.now world.new) }
 {
-    let all = world.thinker_count();
-    for place in 0..all {
-        let told = world.stretch_from(place);
-        let live = world.thinker(place) != Thinker::Ended;
-        if live != (told.start == place) {
-            return false;
-        }
-        if told.end < all && world.thinker(told.end) != Thinker::Ended {
-            return false;
-        }
-    }
-    true
-}
-
-fn end_in_order(
-    rt: &impl Abort,
-    alloc: Global,
-    level: &Level,
-    order: [u32; 6],
-) -> Result<(), Fail> {
-    let mut world = opened(alloc, level)?;
-    let mut steps = Steps::new();
-    push_six(level, &mut world, &mut steps)?;
-    for place in order {
-        end(level, &mut world, place, &mut steps)?;
-        assert!(rt; tells(level, &world), "after {place} in {order:?}");
+    let mut place = 0;
+    for _ in 0..COUNT {
+        end(level, world, place % COUNT, steps)?;
+        place = (place % COUNT) + stride % COUNT;
     }
     Ok(())
+}
+
+/// How many items a world copies to have pages of its own.
+fn copied(world: &mut World) -> Result<u64, Memory> {
+    let mut steps = Steps::new();
+    world.own_pages(&mut steps)?;
+    Ok(steps.pages())
+}
+
+fn kept_after(alloc: Global, level: &Level, stride: u32) -> Result<u64, Fail> {
+    let mut world = opened(alloc, level)?;
+    let empty = copied(&mut world)?;
+    let mut steps = Steps::new();
+    push_all(level, &mut world, &mut steps)?;
+    end_all(level, &mut world, stride, &mut steps)?;
+    let left = copied(&mut world)?;
+    Ok(left.saturating_sub(empty))
 }
 
 #[test]
-fn movers_that_end(rt: HostRuntime) -> Result<(), Fail> {
+fn movers_that_end_are_let_go(rt: HostRuntime) -> Result<(), Fail> {
     let level = sample(rt.alloc())?;
-    for order in ORDERS {
-        end_in_order(&rt, rt.alloc(), &level, order)?;
+    for stride in STRIDES {
+        let kept = kept_after(rt.alloc(), &level, stride)?;
+        assert!(&rt; kept == KEPT, "each {stride}th: {kept}");
     }
     Ok(())
 }

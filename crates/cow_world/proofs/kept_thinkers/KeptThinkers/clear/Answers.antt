@@ -1,5 +1,4 @@
 use Rattle.std.proofs.Common.{arith}
-use Rattle.page_store.specs.Over.{seen}
 use Rattle.cow_world.proofs.kept_thinkers.KeptThinkers.clear.Goals as goal
 
 pub returns-clause-list : goal.returns-clause-list

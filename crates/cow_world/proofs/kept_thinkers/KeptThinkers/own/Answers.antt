@@ -1,4 +1,4 @@
-use Rattle.std.proofs.Common.{◌∙◌, arith}
+use Rattle.std.proofs.Common.{arith}
 use Rattle.page_store.specs.Over.{seen}
 use Rattle.cow_world.proofs.KeptPlaces.{many_made}
 use Rattle.cow_world.proofs.kept_thinkers.KeptThinkers.own.Goals as goal

@@ -1,6 +1,5 @@
-use Rattle.std.proofs.Common.{◌∙◌, ap, arith}
+use Rattle.std.proofs.Common.{arith}
 use Rattle.page_store.specs.Over.{seen}
-use Rattle.cow_world.specs.KeptThinkers.{spread, ArePlaced}
 use Rattle.cow_world.proofs.KeptPlaces.{many_made, pushed, placed-push}
 use Rattle.cow_world.proofs.kept_thinkers.KeptThinkers.push.Goals as goal
 

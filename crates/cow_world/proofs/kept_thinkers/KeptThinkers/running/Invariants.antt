@@ -1,5 +1,5 @@
 -- what was copied is the running among the kept so far
-use Rattle.std.proofs.Common.{◌≡◌, ◌+◌, ◌*◌, ◌≤◌, length, take, filter}
+use Rattle.std.proofs.Common.{◌≡◌, ◌+◌, ◌*◌, ◌≤◌, take, filter}
 use Rattle.page_store.specs.Over.{seen, IsOver}
 use Rattle.cow_world.specs.KeptThinkers.{is_running}
 use Rattle.cow_world.proofs.kept_thinkers.KeptThinkers.running.Given as goal

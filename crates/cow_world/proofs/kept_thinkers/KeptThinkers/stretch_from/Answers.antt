@@ -1,7 +1,7 @@
-use Rattle.std.proofs.Common.{◌≡◌, ◌<◌, ◌≤◌, [], length, get_or, true, arith, rules}
+use Rattle.std.proofs.Common.{◌≡◌, ◌<◌, ◌≤◌, [], length, get_or, arith, rules}
 use Rattle.std.proofs.lemmas.Option.{get_or_from_slice_get}
 use Rattle.page_store.specs.Over.{seen}
-use Rattle.cow_world.specs.KeptThinkers.{no_entry, spread}
+use Rattle.cow_world.specs.KeptThinkers.{no_entry}
 use Rattle.cow_world.proofs.KeptPlaces.{many_made, upper_less, ended_between}
 use Rattle.cow_world.proofs.kept_thinkers.KeptThinkers.stretch_from.Goals as goal
 

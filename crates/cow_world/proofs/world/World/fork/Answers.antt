@@ -1,4 +1,4 @@
-use Rattle.std.proofs.Common.{◌∙◌, refl, arith}
+use Rattle.std.proofs.Common.{◌∙◌, refl}
 use Rattle.cow_world.proofs.Forks.{forked_pages, kept_again}
 use Rattle.cow_world.proofs.world.World.fork.Goals as goal
 

@@ -1,4 +1,4 @@
-use Rattle.std.proofs.Common.{◌≡◌, take, length, w32, w32, ◌∙◌}
+use Rattle.std.proofs.Common.{◌≡◌, take, w32, w32, ◌∙◌}
 use Rattle.std.proofs.lemmas.Int.{to_z-of_z}
 use Rattle.std.proofs.lemmas.List.{take_all}
 use Rattle.map_geometry.specs.Lists.{nth_line}

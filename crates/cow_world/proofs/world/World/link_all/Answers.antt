@@ -1,6 +1,5 @@
-use Rattle.std.proofs.Common.{◌≡◌, ◌<◌, ◌*◌, ℕ, length, List, None, Some, All, sym, ap, ◌∙◌, subst}
+use Rattle.std.proofs.Common.{◌≡◌, ◌<◌, ◌*◌, ℕ, length, All, sym, ap, ◌∙◌, subst}
 use Rattle.cow_world.specs.declared.grid.Grid.{Grid}
-use Rattle.cow_world.specs.declared.records.Thing.{Thing}
 use Rattle.cow_world.specs.Flat.{Live, Gridded, parts, with_parts, grid_of}
 use Rattle.cow_world.specs.Fits.{KeepsFit}
 use Rattle.cow_world.specs.Kept.{IsEntry, things_of}

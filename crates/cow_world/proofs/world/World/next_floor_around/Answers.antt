@@ -1,5 +1,4 @@
-use Rattle.std.proofs.Common.{◌≡◌, w32, FitsSigned, Option, ℤ, ap, sym, ◌∙◌, rules}
-use Rattle.std.specs.Prelude.{unwrap_or}
+use Rattle.std.proofs.Common.{◌≡◌, w32, FitsSigned, ap, ◌∙◌, rules}
 use Rattle.std.proofs.lemmas.Int.{to_z-of_z}
 use Rattle.cow_world.specs.declared.records.Sector.{Sector}
 use Rattle.cow_world.specs.Flat.{sector_at}

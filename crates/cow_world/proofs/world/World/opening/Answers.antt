@@ -1,4 +1,4 @@
-use Rattle.std.proofs.Common.{◌≡◌, sym, ap, subst, ◌∙◌, arith, rules}
+use Rattle.std.proofs.Common.{◌≡◌, sym, ap, subst, arith, rules}
 use Rattle.cow_world.specs.declared.records.Player.{Player}
 use Rattle.std.proofs.lemmas.Grind.{common_steps}
 use Rattle.cow_world.specs.Flat.{Gridded}

@@ -1,10 +1,10 @@
-use Rattle.std.proofs.Common.{◌≡◌, ◌<◌, ◌++◌, ℕ, length, w32, None, Some, All, [], sym, ap, ◌∙◌}
+use Rattle.std.proofs.Common.{◌<◌, ◌++◌, ℕ, length, w32, sym, ap, ◌∙◌}
 use Rattle.std.proofs.lemmas.Int.{to_z-of_z}
 use Rattle.std.proofs.lemmas.List.{append-nil}
 use Rattle.std.proofs.lemmas.List.Elements.{All-nil}
 use Rattle.cow_world.specs.declared.grid.Grid.{Grid}
 use Rattle.cow_world.specs.Flat.{Gridded, parts}
-use Rattle.cow_world.specs.Places.{cell_at, linked_in}
+use Rattle.cow_world.specs.Places.{cell_at}
 use Rattle.cow_world.proofs.Blocks.{linked_are, linked_there, linked_none}
 use Rattle.cow_world.proofs.world.World.push_linked.Goals as goal
 

@@ -1,4 +1,4 @@
-use Rattle.std.proofs.Common.{◌≡◌, [], ◌∷◌, ◌++◌, None, Some, sym, subst, rules, arith, length-append}
+use Rattle.std.proofs.Common.{◌≡◌, [], ◌∷◌, None, sym, subst, rules, arith, length-append}
 use Rattle.cow_world.specs.Fits.{KeepsFitWith}
 use Rattle.cow_world.proofs.Fitting.{keeps-push_thing}
 use Rattle.cow_world.proofs.Writes.{is_live}

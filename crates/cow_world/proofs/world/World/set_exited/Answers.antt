@@ -1,5 +1,4 @@
-use Rattle.std.proofs.Common.{sym, subst, refl, rules, set, [], ◌∷◌, ◌++◌}
-use Rattle.std.proofs.lemmas.List.{length-set}
+use Rattle.std.proofs.Common.{sym, subst, refl, rules}
 use Rattle.cow_world.specs.Flat.{parts}
 use Rattle.cow_world.specs.Fits.{KeepsFit}
 use Rattle.cow_world.proofs.Fitting.{keeps-aside}

@@ -1,9 +1,8 @@
-use Rattle.std.proofs.Common.{◌≡◌, ◌<◌, ◌++◌, ◌∷◌, [], ℕ, w32, FitsSigned, rules, List, length, All, append_assoc, sym, ap, subst, ◌∙◌}
+use Rattle.std.proofs.Common.{◌≡◌, ◌<◌, ◌++◌, ◌∷◌, ℕ, w32, FitsSigned, rules, length, All, append_assoc, sym, ap, subst, ◌∙◌}
 use Rattle.std.proofs.lemmas.Int.{to_z-of_z}
 use Rattle.std.proofs.lemmas.List.{append-nil}
 use Rattle.std.proofs.lemmas.List.Elements.{All-nil, All-append}
-use Rattle.map_geometry.specs.declared.blocks.Block.{Block}
-use Rattle.map_geometry.specs.Blocks.{blocks_in, cut_to_grid}
+use Rattle.map_geometry.specs.Blocks.{blocks_in}
 use Rattle.cow_world.specs.Flat.{parts}
 use Rattle.cow_world.specs.Places.{linked_in, things_in}
 use Rattle.cow_world.proofs.Blocks.{things_cut}

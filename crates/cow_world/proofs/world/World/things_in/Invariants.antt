@@ -1,5 +1,5 @@
 -- what is left from here on gives what the whole gives from the start
-use Rattle.std.proofs.Common.{◌≡◌, ◌<◌, ◌++◌, ℕ, All, length}
+use Rattle.std.proofs.Common.{◌≡◌, ◌<◌, ◌++◌, All, length}
 use Rattle.map_geometry.specs.Blocks.{blocks_in}
 use Rattle.cow_world.specs.Flat.{parts}
 use Rattle.cow_world.specs.Places.{things_in}
