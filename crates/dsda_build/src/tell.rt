@@ -1,6 +1,6 @@
 // What the program says on standard error and to whom asks for its usage. No clause rests on it.
 use doom_edge::{OutSink, PushFault, Sink};
-use dsda_cli::Status;
+use dsda_cli::{InputFault, Status};
 
 /// The command lines, the words of a script, and the statuses.
 pub const USAGE: &str = "usage: dsda_build COMMAND
@@ -53,7 +53,8 @@ pub fn print(rt: &HostRuntime, text: &str) -> Result<(), PushFault> {
 /// Says on standard error why a run ended so. `failure` says what failed last, and `has_put` that OUT was written.
 pub fn explain(rt: &HostRuntime, status: &Status, failure: &str, has_put: bool) {
     match status {
-        Status::Done | Status::Refused(_) => {}
+        Status::Done => {}
+        Status::Refused(fault) => say_refusal(rt, fault),
         Status::Usage => say(rt, USAGE),
         Status::ReadFault => {
             say_failure(rt, failure, "cannot read an input");
@@ -71,6 +72,27 @@ pub fn explain(rt: &HostRuntime, status: &Status, failure: &str, has_put: bool) 
             say(rt, "out of memory");
             say_written(rt, has_put);
         }
+    }
+}
+
+/// Says where the refusal of a fault stands. The report has the refusal itself.
+fn say_refusal(rt: &HostRuntime, fault: &InputFault) {
+    say(rt, "docs/FORMATS.md has this refusal under \"");
+    say(rt, heading(fault));
+    say(rt, "\"\n");
+}
+
+/// The heading under which docs/FORMATS.md has the refusal of a fault.
+fn heading(fault: &InputFault) -> &'static str {
+    match fault {
+        InputFault::Large(_) => "Limits",
+        InputFault::Wad(_) => "The WAD",
+        InputFault::Tables(_) => "The table file",
+        InputFault::Demo(_) => "The demo",
+        InputFault::Script(_, _) | InputFault::Name(_) | InputFault::Edit(_, _) => "The script",
+        InputFault::Order(_) => "The order file",
+        InputFault::Level(_) => "The level",
+        InputFault::Start(_) => "The start",
     }
 }
 
