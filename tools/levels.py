@@ -116,7 +116,8 @@ def tables(kinds, random=bytes(range(256))):
     return struct.pack("<4sI", b"PTAB", len(kinds)) + angles() + random + b"".join(packed)
 
 
-def demo(tics=(), skill=3, episode=1, number=1):
-    """A demo of version 109 on a map; a tic is forward, side, turn and buttons."""
-    header = bytes([109, skill, episode, number, 0, 0, 0, 1, 0, 1, 0, 0, 0])
-    return header + b"".join(struct.pack("<bbbB", *tic) for tic in tics) + b"\x80"
+def demo(tics=(), skill=3, episode=1, number=1, version=109):
+    """A demo of version 109 or 111 on a map; a tic is forward, side, turn and buttons."""
+    header = bytes([version, skill, episode, number, 0, 0, 0, 1, 0, 1, 0, 0, 0])
+    form = "<bbbB" if version == 109 else "<bbhB"
+    return header + b"".join(struct.pack(form, *tic) for tic in tics) + b"\x80"
