@@ -3,6 +3,7 @@ ghost use Rattle.std.specs.Prelude.{OnOk};
 ghost use Rattle.play_tests.specs.Open.{IsOpen};
 
 use crate::levels::{opened, sample};
+use crate::rows::{expect, numbers, word};
 use cow_world::{FloorKind, Thinker, World};
 use doom_edge::{Memory, Steps};
 use map_geometry::Level;
@@ -15,25 +16,6 @@ const FLOOR: Thinker = Thinker::Floor {
     kind: FloorKind::ToLowest,
     dest: 0,
 };
-
-/// In which order the movers at six places end: from the first on, from the last on, each second one before the others,
-/// and mixed.
-const ORDERS: [[u32; 6]; 4] = [
-    [0, 1, 2, 3, 4, 5],
-    [5, 4, 3, 2, 1, 0],
-    [1, 3, 5, 0, 2, 4],
-    [4, 0, 2, 3, 1, 5],
-];
-
-fn push_six(level: &Level, world: &mut World, steps: &mut Steps) -> Result<(), Memory>
-    requires { IsOpen level.now world.old }
-    ensures { OnOk result (IsOpen level.now world.new) }
-{
-    for _ in 0..6 {
-        world.push_thinker(FLOOR, steps)?;
-    }
-    Ok(())
-}
 
 fn end(level: &Level, world: &mut World, place: u32, steps: &mut Steps) -> Result<(), Memory>
     requires { IsOpen level.now world.old }
@@ -63,18 +45,50 @@ fn tells(level: &Level, world: &World) -> bool
     true
 }
 
-fn end_in_order(
-    rt: &impl Abort,
-    alloc: Global,
-    level: &Level,
-    order: [u32; 6],
-) -> Result<(), Fail> {
-    let mut world = opened(alloc, level)?;
+fn push_six(level: &Level, world: &mut World, steps: &mut Steps) -> Result<(), Memory>
+    requires { IsOpen level.now world.old }
+    ensures { OnOk result (IsOpen level.now world.new) }
+{
+    for _ in 0..6 {
+        world.push_thinker(FLOOR, steps)?;
+    }
+    Ok(())
+}
+
+/// Ends movers in an order, and counts after how many of them the world told of the others.
+fn end_each(level: &Level, world: &mut World, order: &[i64]) -> Result<i64, Fail>
+    requires { IsOpen level.now world.old }
+{
     let mut steps = Steps::new();
-    push_six(level, &mut world, &mut steps)?;
-    for place in order {
-        end(level, &mut world, place, &mut steps)?;
-        assert!(rt; tells(level, &world), "after {place} in {order:?}");
+    push_six(level, world, &mut steps)?;
+    let mut right = 0i64;
+    for place in 0..order.len() {
+        end(level, world, word(order, place), &mut steps)?;
+        if tells(level, world) {
+            right = right.wrapping_add(1);
+        }
+    }
+    Ok(right)
+}
+
+fn end_in_order(alloc: Global, level: &Level, order: &[i64]) -> Result<i64, Fail> {
+    let mut world = opened(alloc, level)?;
+    end_each(level, &mut world, order)
+}
+
+/// In which order the movers at six places end: from the first on, from the last on, each second one before the others,
+/// and mixed.
+const ORDERS: &str = "\
+0 1 2 3 4 5
+5 4 3 2 1 0
+1 3 5 0 2 4
+4 0 2 3 1 5";
+
+fn expect_orders(rt: &impl Abort, alloc: Global, level: &Level) -> Result<(), Fail> {
+    for line in ORDERS.lines() {
+        let order = numbers(alloc, line)?;
+        let right = end_in_order(alloc, level, &order)?;
+        expect(rt, line, &[right], &[6]);
     }
     Ok(())
 }
@@ -82,8 +96,5 @@ fn end_in_order(
 #[test]
 fn movers_that_end(rt: HostRuntime) -> Result<(), Fail> {
     let level = sample(rt.alloc())?;
-    for order in ORDERS {
-        end_in_order(&rt, rt.alloc(), &level, order)?;
-    }
-    Ok(())
+    expect_orders(&rt, rt.alloc(), &level)
 }

@@ -13,9 +13,13 @@ use wad_lumps::Wad;
 
 /// The level of a map under the label `E1M1` or `MAP01`.
 pub(crate) fn level_of(alloc: Global, plan: &MapPlan) -> Result<Level, Fail> {
-    let wad = Wad::read(wad(alloc, plan)?).map_err(|_| "the file is a WAD")?;
-    let spans = wad.map(alloc, 1, 1).map_err(|_| "the map is there")?;
-    let level = load(alloc, &wad, &spans).map_err(|_| "the level has no fault")?;
+    read(alloc, wad(alloc, plan)?)
+}
+
+fn read(alloc: Global, bytes: Vec<u8>) -> Result<Level, Fail> {
+    let wad = Wad::read(bytes)?;
+    let spans = wad.map(alloc, 1, 1)?;
+    let level = load(alloc, &wad, &spans)?;
     Ok(level)
 }
 

@@ -4,6 +4,7 @@ ghost use Rattle.cow_world.specs.Flat.{parts};
 ghost use Rattle.play_tests.specs.Open.{IsOpen};
 
 use crate::levels::{opened, sample};
+use crate::rows::{counted, expect};
 use cow_world::{DoorKind, DoorPhase, Player, Sector, Thing, Thinker, World};
 use doom_edge::{Memory, Steps};
 use game_trait::Halt;
@@ -207,60 +208,93 @@ const EAST: Sector = Sector {
     mover: None,
 };
 
-/// Tries a writer on a fork of the world that has pages of its own.
-fn try_writer(
-    rt: &impl Abort,
+/// Whether a writer is read on a fork of the world that has pages of its own.
+fn is_read_on_fork(
     level: &Level,
     world: &mut World,
     writer: Writer,
     steps: &mut Steps,
-) -> Result<(), Fail>
+) -> Result<bool, Memory>
     requires { IsOpen level.now world.old }
     ensures { world.new ≡ world.old }
 {
     let mut fork = world.fork(steps)?;
     fork.own_pages(steps)?;
-    let read = is_read(level, &mut fork, writer, steps)?;
-    assert!(rt; read, "{writer:?}");
-    Ok(())
+    is_read(level, &mut fork, writer, steps)
 }
 
-/// Each writer on a fork of one world, which stays as it was opened.
-fn try_writers(rt: &impl Abort, alloc: Global, level: &Level) -> Result<(), Fail> {
-    let mut world = opened(alloc, level)?;
-    let mut steps = Steps::new();
+/// The first writer that is not read, each on a fork of its own.
+fn first_unread(
+    level: &Level,
+    world: &mut World,
+    steps: &mut Steps,
+) -> Result<Option<Writer>, Memory>
+    requires { IsOpen level.now world.old }
+    ensures { OnOk result (IsOpen level.now world.new) }
+{
     for writer in WRITERS {
-        try_writer(rt, level, &mut world, writer, &mut steps)?;
+        if !is_read_on_fork(level, world, writer, steps)? {
+            return Ok(Some(writer));
+        }
     }
-    assert_eq!(rt; world.sector(1), EAST);
+    Ok(None)
+}
+
+/// That writer, and whether the forks' origin is as it was opened.
+fn try_writers(level: &Level, world: &mut World) -> Result<(Option<Writer>, bool), Fail>
+    requires { IsOpen level.now world.old }
+{
+    let unread = first_unread(level, world, &mut Steps::new())?;
+    Ok((unread, world.sector(1) == EAST))
+}
+
+fn expect_writers(rt: &impl Abort, alloc: Global, level: &Level) -> Result<(), Fail> {
+    let mut world = opened(alloc, level)?;
+    let (unread, stays) = try_writers(level, &mut world)?;
+    assert!(rt; unread.is_none() && stays, "{unread:?}");
     Ok(())
 }
 
 #[test]
 fn each_writer_on_a_fork(rt: HostRuntime) -> Result<(), Fail> {
     let level = sample(rt.alloc())?;
-    try_writers(&rt, rt.alloc(), &level)
+    expect_writers(&rt, rt.alloc(), &level)
 }
 
-/// A halt of a fork, and a fork of what halted.
-fn halt_a_fork(rt: &impl Abort, world: &mut World, steps: &mut Steps) -> Result<(), Fail> {
+/// How a fork of what halted ended, where a fork of the world was halted.
+fn halt_a_fork(world: &mut World, steps: &mut Steps) -> Result<Option<(u64, Halt)>, Memory> {
     let mut fork = world.fork(steps)?;
     fork.set_halted(7, Halt::Special(39));
-    let again = fork.fork(steps)?;
-    assert_eq!(rt; again.halted(), Some((7, Halt::Special(39))));
+    halted_of_fork(&mut fork, steps)
+}
+
+fn halted_of_fork(world: &mut World, steps: &mut Steps) -> Result<Option<(u64, Halt)>, Memory> {
+    let fork = world.fork(steps)?;
+    Ok(fork.halted())
+}
+
+/// Whether the fork halted, whether the origin is live, and the page steps.
+fn halts(world: &mut World) -> Result<[i64; 3], Fail> {
+    let mut steps = Steps::new();
+    let halted = halt_a_fork(world, &mut steps)?;
+    Ok([
+        i64::from(halted == Some((7, Halt::Special(39)))),
+        i64::from(world.halted().is_none()),
+        counted(steps.pages()),
+    ])
+}
+
+/// A halt leaves the origin, and a fork of a world that was not written takes no page step.
+fn expect_halts(rt: &impl Abort, alloc: Global, level: &Level) -> Result<(), Fail> {
+    let mut world = opened(alloc, level)?;
+    expect(rt, "a halt", &halts(&mut world)?, &[1, 1, 0]);
     Ok(())
 }
 
-// A halt leaves the origin, and a fork of a world that was not written takes no page step.
 #[test]
 fn halts_and_forks(rt: HostRuntime) -> Result<(), Fail> {
     let level = sample(rt.alloc())?;
-    let mut world = opened(rt.alloc(), &level)?;
-    let mut steps = Steps::new();
-    halt_a_fork(&rt, &mut world, &mut steps)?;
-    assert_eq!(rt; world.halted(), None);
-    assert_eq!(rt; steps.pages(), 0);
-    Ok(())
+    expect_halts(&rt, rt.alloc(), &level)
 }
 
 /// Two things, of which the second is the player's, linked one after the other.
@@ -297,38 +331,60 @@ fn lift(
 }
 
 /// The height of a thing, if it is there.
-fn height(level: &Level, world: &World, thing: u32) -> Option<i32>
+fn height(level: &Level, world: &World, thing: u32) -> i64
     requires { IsOpen level.now world.now }
 {
     if thing < world.thing_count() {
-        Some(world.thing(thing).z)
+        i64::from(world.thing(thing).z)
     } else {
-        None
+        i64::MIN
     }
 }
 
-/// The heights of both things, and that the player's thing stands first in their block.
-fn shows(
-    rt: &impl Abort,
-    alloc: Global,
-    level: &Level,
-    world: &World,
-    heights: (i32, i32),
-) -> Result<(), Fail>
+/// Whether both things are in their block, the player's first, and the heights of both.
+fn shown(alloc: Global, level: &Level, world: &World) -> Result<[i64; 3], Memory>
     requires { IsOpen level.now world.now }
 {
     let mut linked = Vec::new(alloc);
     let column = level.column_of(KEY.x);
     world.linked_in(level, column, level.row_of(KEY.y), &mut linked)?;
-    assert_eq!(rt; linked.as_slice(), [1, 0].as_slice());
-    assert_eq!(rt; height(level, world, 0), Some(heights.0));
-    assert_eq!(rt; height(level, world, 1), Some(heights.1));
+    Ok([
+        i64::from(linked.as_slice() == [1, 0].as_slice()),
+        height(level, world, 0),
+        height(level, world, 1),
+    ])
+}
+
+/// Lifts both things. Gives the page steps that it took.
+fn lift_both(level: &Level, world: &mut World, steps: &mut Steps) -> Result<i64, Memory>
+    requires { IsOpen level.now world.old }
+    ensures { OnOk result (IsOpen level.now world.new) }
+{
+    let before = steps.pages();
+    lift(level, world, 0, 9, steps)?;
+    lift(level, world, 1, 7, steps)?;
+    Ok(counted(steps.pages().wrapping_sub(before)))
+}
+
+/// Gives a world pages of its own, and lifts both things. What is done to the player's thing takes no page step; the other
+/// thing's page, of two things, is copied.
+fn expect_lifted(
+    rt: &impl Abort,
+    alloc: Global,
+    level: &Level,
+    world: &mut World,
+    steps: &mut Steps,
+) -> Result<(), Fail>
+    requires { IsOpen level.now world.old }
+{
+    world.own_pages(steps)?;
+    let taken = lift_both(level, world, steps)?;
+    expect(rt, "page steps", &[taken], &[3]);
+    expect(rt, "the fork", &shown(alloc, level, world)?, &[1, 9, 7]);
     Ok(())
 }
 
-/// Lifts both things of a fork with pages of its own. What is done to the player's thing takes no page step; the other
-/// thing's page, of two things, is copied.
-fn lift_a_fork(
+fn expect_lifted_fork(
     rt: &impl Abort,
     alloc: Global,
     level: &Level,
@@ -339,23 +395,39 @@ fn lift_a_fork(
     ensures { origin.new ≡ origin.old }
 {
     let mut fork = origin.fork(steps)?;
-    fork.own_pages(steps)?;
-    let before = steps.pages();
-    lift(level, &mut fork, 0, 9, steps)?;
-    lift(level, &mut fork, 1, 7, steps)?;
-    assert_eq!(rt; steps.pages().wrapping_sub(before), 3);
-    shows(rt, alloc, level, &fork, (9, 7))
+    expect_lifted(rt, alloc, level, &mut fork, steps)
 }
 
-// A world with pages of its own and its origin are the same until one is written, and then apart.
+/// A world with pages of its own and its origin are the same until one is written, and then apart.
+fn expect_apart(
+    rt: &impl Abort,
+    alloc: Global,
+    level: &Level,
+    origin: &mut World,
+) -> Result<(), Fail>
+    requires { IsOpen level.now origin.old }
+{
+    let mut steps = Steps::new();
+    spawn_two(level, origin, &mut steps)?;
+    expect_lifted_fork(rt, alloc, level, origin, &mut steps)?;
+    expect(
+        rt,
+        "the origin",
+        &shown(alloc, level, origin)?,
+        &[1, 65536, 65536],
+    );
+    Ok(())
+}
+
+fn expect_pages(rt: &impl Abort, alloc: Global, level: &Level) -> Result<(), Fail> {
+    let mut origin = opened(alloc, level)?;
+    expect_apart(rt, alloc, level, &mut origin)
+}
+
 #[test]
 fn pages_of_its_own(rt: HostRuntime) -> Result<(), Fail> {
     let level = sample(rt.alloc())?;
-    let mut origin = opened(rt.alloc(), &level)?;
-    let mut steps = Steps::new();
-    spawn_two(&level, &mut origin, &mut steps)?;
-    lift_a_fork(&rt, rt.alloc(), &level, &mut origin, &mut steps)?;
-    shows(&rt, rt.alloc(), &level, &origin, (UNIT, UNIT))
+    expect_pages(&rt, rt.alloc(), &level)
 }
 
 /// Pushes two things, and links both at once.
@@ -372,11 +444,23 @@ fn spawn_at_once(level: &Level, world: &mut World, steps: &mut Steps) -> Result<
     Ok(())
 }
 
+fn spawned_at_once(alloc: Global, level: &Level, world: &mut World) -> Result<[i64; 3], Memory>
+    requires open { IsOpen level.now world.old }
+    requires first { (parts world.old).links ≡ [] }
+{
+    spawn_at_once(level, world, &mut Steps::new())?;
+    shown(alloc, level, world)
+}
+
+fn expect_at_once(rt: &impl Abort, alloc: Global, level: &Level) -> Result<(), Fail> {
+    let mut world = opened(alloc, level)?;
+    let found = spawned_at_once(alloc, level, &mut world)?;
+    expect(rt, "at once", &found, &[1, 65536, 65536]);
+    Ok(())
+}
+
 #[test]
 fn linked_at_once(rt: HostRuntime) -> Result<(), Fail> {
     let level = sample(rt.alloc())?;
-    let mut world = opened(rt.alloc(), &level)?;
-    let mut steps = Steps::new();
-    spawn_at_once(&level, &mut world, &mut steps)?;
-    shows(&rt, rt.alloc(), &level, &world, (UNIT, UNIT))
+    expect_at_once(&rt, rt.alloc(), &level)
 }
