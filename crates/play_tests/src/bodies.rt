@@ -24,8 +24,8 @@ fn wait(body: &mut Body, tics: i32) -> i64 {
     0
 }
 
-/// What comes of a row: a hit of its damage, in a finale or not; a thing of its number, in Doom II or not, which is taken
-/// or left; or so many tics.
+/// What comes of a row: a hit of its damage, in a finale or not; a thing of its number, in Doom II or not, which is
+/// taken or left; or so many tics.
 fn come_of(body: &mut Body, line: &str, row: &[i64]) -> i64 {
     let flag = at(row, 2) == 1;
     if line.starts_with("hit") {
@@ -37,7 +37,8 @@ fn come_of(body: &mut Body, line: &str, row: &[i64]) -> i64 {
     }
 }
 
-/// What came of a row, health, armour and its kind, and what is left of an invulnerability, a suit and a teleport's freeze.
+/// What came of a row, health, armour and its kind, and what is left of an invulnerability, a suit and a teleport's
+/// freeze.
 fn shown(came: i64, body: &Body) -> [i64; 7] {
     [
         came,

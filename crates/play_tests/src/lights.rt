@@ -1,5 +1,5 @@
-//! Each kind of light over some tics, by the sum of its levels and the random index then, with numbers that a program of its
-//! own worked out from the rules.
+//! Each kind of light over some tics, by the sum of its levels and the random index then, with numbers that a program
+//! of its own worked out from the rules.
 ghost use Rattle.std.specs.Prelude.{◌<◌, length, OnOk};
 ghost use Rattle.cow_world.specs.Fits.{Fits};
 
@@ -13,17 +13,26 @@ use level_start::start;
 use light_fx::run_lights;
 use lmp_codec::Header;
 use map_geometry::Level;
-use sample_inputs::{PlanSector, two_sectors};
-use std::alloc::Global;
+use sample_inputs::{MapPlan, PlanSector, single_room, two_sectors};
+use std::alloc::{AllocError, Global};
 use std::process::Abort;
 use std::test::Fail;
 
 /// The light of a sector with a special.
 const BRIGHT: i16 = 160;
 
-/// A sector with a special, beside one of another light.
+/// A room, with another one beside it or without.
+fn rooms(alloc: Global, two: bool) -> Result<MapPlan, AllocError> {
+    if two {
+        two_sectors(alloc, 48, (0, 128, 0), (0, 128, 0), 0, 0)
+    } else {
+        single_room(alloc)
+    }
+}
+
+/// A sector with a special, beside one of another light; a light below 0 is that of no sector.
 fn hall(alloc: Global, special: u16, beside: i16) -> Result<Level, Fail> {
-    let mut plan = two_sectors(alloc, 48, (0, 128, 0), (0, 128, 0), 0, 0)?;
+    let mut plan = rooms(alloc, beside >= 0)?;
     let dim = PlanSector {
         floor: 0,
         ceiling: 128,
@@ -113,9 +122,9 @@ fn shine(
     shone(alloc, &level, tables, header, int(row, 2))
 }
 
-/// A sector's special, the light beside it, how many tics are played, the sum, and the random index. First those that draw:
-/// a flash, strobes and a flicker; then a glow, and strobes in step. The player's start drew one number. Last a flash
-/// without less light beside it, which goes dark after 65 tics, and draws from then on as its numbers say.
+/// A sector's special, the light beside it, how many tics are played, the sum, and the random index. First those that
+/// draw: a flash, strobes and a flicker; then a glow, and strobes in step. The player's start drew one number. Last a
+/// flash with nothing beside it, which goes dark after 65 tics, and draws from then on as its numbers say.
 const LIGHTS: &str = "\
 1 80 80 12480 6
 2 80 80 8160 2
@@ -124,11 +133,11 @@ const LIGHTS: &str = "\
 8 80 80 9632 1
 12 80 80 7200 1
 13 80 80 8000 1
-1 160 64 10240 2
-1 160 65 10400 3
-1 160 66 10560 4
-1 160 67 10720 4
-1 160 68 10880 5";
+1 -1 64 10240 2
+1 -1 65 10400 3
+1 -1 66 10560 4
+1 -1 67 10720 4
+1 -1 68 10880 5";
 
 fn expect_lights(
     rt: &impl Abort,

@@ -252,8 +252,8 @@ fn block_of_first(
     Ok([-1, -1])
 }
 
-/// Places in fixed point, on the borders of blocks (-512, -384 and 640 units) and far off, and the column and row of the
-/// block in which each lies.
+/// Places in fixed point, on the borders of blocks (-512, -384 and 640 units) and far off, and the column and row of
+/// the block in which each lies.
 const BORDERS: &str = "\
 -33554432 -33554432 0 0
 -33554433 -33554432 -1 -1

@@ -177,8 +177,8 @@ fn expect_starts(
 }
 
 /// E1M1 or MAP01, the skill, three things by number, angle and options, how the level starts, and what is linked in the
-/// middle. Each thing that is spawned draws a number, and one more since its first state ticks; an angle is cut to whole
-/// eighths of a turn, toward zero. Things are linked in their order, but for those of a kind that isn't.
+/// middle. Each thing that is spawned draws a number, and one more since its first state ticks; an angle is cut to
+/// whole eighths of a turn, toward zero. Things are linked in their order, but for those of a kind that isn't.
 const STARTS: &str = "\
 1 2  1 0 7  0 0 0  0 0 0  0 0 0 0 0 0 1  0
 1 2  1 -50 7  0 0 0  0 0 0  0 0 0 0 0 3758096384 1  0
@@ -193,8 +193,8 @@ const STARTS: &str = "\
 1 2  63 0 7  1 0 7  0 0 0  0 1 0 0 0 0 3  1 0
 1 2  1 0 7  14 0 7  5 0 7  0 0 0 0 0 0 5  2 0";
 
-/// The first fault in the order of the things, and that none is the player's start after all of them: none starts, two do,
-/// a number that the tables don't have, one of Doom II alone, and one that shoots cubes.
+/// The first fault in the order of the things, and that none is the player's start after all of them. A fault is told as
+/// `told` says: nobody starts, two do, a number that the tables don't have, one of Doom II alone, one that shoots cubes.
 const REFUSALS: &str = "\
 1 2  0 0 0  0 0 0  0 0 0  1 0 0
 1 2  1 0 7  1 0 7  0 0 0  2 0 0

@@ -52,8 +52,8 @@ fn shown(origin: &Store<u32>, forked: &Store<u32>, steps: &Steps) -> [i64; 9] {
     ]
 }
 
-/// Which store is written, at which place, and the number; and what is shown then. Each write copies one page at most, and
-/// leaves the other store.
+/// Which store is written, at which place, and the number; and what is shown then. Each write copies one page at most,
+/// and leaves the other store.
 const WRITES: &str = "\
 fork 40 7 33 40 41 99 -1 7 41 99 -1
 fork 41 8 34 40 41 99 -1 7 8 99 -1

@@ -366,8 +366,8 @@ fn lift_both(level: &Level, world: &mut World, steps: &mut Steps) -> Result<i64,
     Ok(counted(steps.pages().wrapping_sub(before)))
 }
 
-/// Gives a world pages of its own, and lifts both things. What is done to the player's thing takes no page step; the other
-/// thing's page, of two things, is copied.
+/// Gives a world pages of its own, and lifts both things. What is done to the player's thing takes no page step; the
+/// other thing's page, of two things, is copied.
 fn expect_lifted(
     rt: &impl Abort,
     alloc: Global,
