@@ -13,16 +13,21 @@ use std::alloc::Global;
 use std::process::Abort;
 use std::test::Fail;
 
-/// How a fork of what halted ended, where a fork of the world was halted.
-fn halt_a_fork(world: &mut World, steps: &mut Steps) -> Result<Option<(u64, Halt)>, Memory> {
-    let mut fork = world.fork(steps)?;
-    fork.set_halted(7, Halt::Special(39));
-    halted_of_fork(&mut fork, steps)
+/// Whether a world halted as it was told to.
+fn is_halted(world: &World) -> bool {
+    world.halted() == Some((7, Halt::Special(39)))
 }
 
-fn halted_of_fork(world: &mut World, steps: &mut Steps) -> Result<Option<(u64, Halt)>, Memory> {
+/// Whether a fork of what halted is halted, where a fork of the world was halted.
+fn halt_a_fork(world: &mut World, steps: &mut Steps) -> Result<bool, Memory> {
+    let mut fork = world.fork(steps)?;
+    fork.set_halted(7, Halt::Special(39));
+    is_fork_halted(&mut fork, steps)
+}
+
+fn is_fork_halted(world: &mut World, steps: &mut Steps) -> Result<bool, Memory> {
     let fork = world.fork(steps)?;
-    Ok(fork.halted())
+    Ok(is_halted(&fork))
 }
 
 /// Whether the fork halted, whether the origin is live, and the page steps.
@@ -30,7 +35,7 @@ fn halts(world: &mut World) -> Result<[i64; 3], Fail> {
     let mut steps = Steps::new();
     let halted = halt_a_fork(world, &mut steps)?;
     Ok([
-        i64::from(halted == Some((7, Halt::Special(39)))),
+        i64::from(halted),
         i64::from(world.halted().is_none()),
         counted(steps.pages()),
     ])
