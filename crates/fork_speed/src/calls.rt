@@ -78,12 +78,19 @@ fn spawn_all(alloc: Global, level: &Level) -> Result<World, Memory>
     ensures { IfOk result (FitsLevel level.now) }
 {
     let mut world = World::opening(alloc, level)?;
+    spawn_in(level, &mut world)?;
+    Ok(world)
+}
+
+fn spawn_in(level: &Level, world: &mut World) -> Result<(), Memory>
+    requires { FitsLevel level.now world.old }
+    ensures { OnOk result (FitsLevel level.now world.new) }
+{
     let mut steps = Steps::new();
     for i in 0..level.thing_count() {
-        spawn(level, &mut world, i, &mut steps)?;
+        spawn(level, world, i, &mut steps)?;
     }
-    world.own_pages(&mut steps)?;
-    Ok(world)
+    world.own_pages(&mut steps)
 }
 
 /// Pushes and links one thing, which is the player's where it is a start.
@@ -160,10 +167,7 @@ impl Call {
             let answer = match self {
                 Call::ReadSector => read_sector(level, world, i),
                 Call::ThingsIn => things_in(alloc, level, world)?,
-                Call::LinesIn => {
-                    lines_in(level, &box_of_player(world), &mut lines)?;
-                    lines.len() as u64
-                }
+                Call::LinesIn => lines_near(level, world, &mut lines)?,
                 Call::NearAll => lines_met(level, &box_of_player(world)),
                 _ => self.on_fork(level, world, &mut steps)?,
             };
@@ -178,22 +182,32 @@ impl Call {
         ensures { world.new ≡ world.old }
     {
         let mut fork = world.fork(steps)?;
+        self.written(level, &mut fork, steps)
+    }
+
+    /// The random index of a world that was written.
+    fn written(self, level: &Level, world: &mut World, steps: &mut Steps) -> Result<u64, Memory>
+        requires { FitsLevel level.now world.old }
+    {
+        self.write(level, world, steps)?;
+        Ok(u64::from(world.rng()))
+    }
+
+    fn write(self, level: &Level, world: &mut World, steps: &mut Steps) -> Result<(), Memory>
+        requires { FitsLevel level.now world.old }
+        ensures { OnOk result (IsLive world.new) }
+    {
         match self {
-            Call::WriteThing => lift(&mut fork, 0, steps)?,
+            Call::WriteThing => lift(world, 0, steps),
             Call::WritePlayer => {
-                let place = fork.player().thing;
-                lift(&mut fork, place, steps)?;
+                let place = world.player().thing;
+                lift(world, place, steps)
             }
-            Call::WriteSpecial => {
-                if level.line_count() > 0 {
-                    fork.set_line_special(0, 46, steps)?;
-                }
-            }
-            Call::WriteSector => raise(level, &mut fork, steps)?,
-            Call::Link => relink(level, &mut fork, steps)?,
-            _ => {}
+            Call::WriteSpecial => turn(level, world, steps),
+            Call::WriteSector => raise(level, world, steps),
+            Call::Link => relink(level, world, steps),
+            _ => Ok(()),
         }
-        Ok(u64::from(fork.rng()))
     }
 }
 
@@ -205,6 +219,17 @@ fn lift(world: &mut World, place: u32, steps: &mut Steps) -> Result<(), Memory>
     if place < world.thing_count() {
         let thing = world.thing(place);
         world.set_thing(place, Thing { z: 1, ..thing }, steps)?;
+    }
+    Ok(())
+}
+
+/// Gives a line another special.
+fn turn(level: &Level, world: &mut World, steps: &mut Steps) -> Result<(), Memory>
+    requires { FitsLevel level.now world.old }
+    ensures { OnOk result (IsLive world.new) }
+{
+    if level.line_count() > 0 {
+        world.set_line_special(0, 46, steps)?;
     }
     Ok(())
 }
@@ -272,6 +297,14 @@ fn things_in(alloc: Global, level: &Level, world: &World) -> Result<u64, Memory>
     let mut things = Things::new(alloc);
     world.things_in(level, &blocks_of(level, &area), &mut things)?;
     Ok(things.len() as u64)
+}
+
+/// How many lines lie in the box of the player.
+fn lines_near(level: &Level, world: &World, lines: &mut Vec<u32>) -> Result<u64, Memory>
+    requires { FitsLevel level.now world.now }
+{
+    lines_in(level, &box_of_player(world), lines)?;
+    Ok(lines.len() as u64)
 }
 
 /// How many lines are met in the blocks of an area, a line once for each block.

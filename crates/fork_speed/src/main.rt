@@ -61,8 +61,19 @@ fn time_calls(
     level: &Level,
 ) -> anyhow::Result<()> {
     let mut world = spawned(rt.alloc(), level)?;
+    time_in(rt, name, level, &mut world)
+}
+
+fn time_in(
+    rt: &(impl Print + CpuClock + AllocGlobal),
+    name: &str,
+    level: &Level,
+    world: &mut World,
+) -> anyhow::Result<()>
+    requires { FitsLevel level.now world.old }
+{
     for call in Call::ALL {
-        let (sum, least) = time_call(rt, call, level, &mut world)?;
+        let (sum, least) = time_call(rt, call, level, world)?;
         let each = least / u64::from(MANY);
         println!(rt; "{name} {call}: {sum}, {each} ns")?;
     }
@@ -72,8 +83,19 @@ fn time_calls(
 /// Makes each call a few times, and prints what they answer, added up.
 fn add_calls(rt: &(impl Print + AllocGlobal), name: &str, level: &Level) -> anyhow::Result<()> {
     let mut world = spawned(rt.alloc(), level)?;
+    add_in(rt, name, level, &mut world)
+}
+
+fn add_in(
+    rt: &(impl Print + AllocGlobal),
+    name: &str,
+    level: &Level,
+    world: &mut World,
+) -> anyhow::Result<()>
+    requires { FitsLevel level.now world.old }
+{
     for call in Call::ALL {
-        let sum = call.sum(rt.alloc(), level, &mut world, FEW)?;
+        let sum = call.sum(rt.alloc(), level, world, FEW)?;
         println!(rt; "{name} {call}: {sum}")?;
     }
     Ok(())

@@ -1,51 +1,79 @@
 //! What lies around a sector and in a line, and random numbers, on the level of two sectors: one from 0 to 128 units in
 //! height, and one from 24 to 96.
-ghost use Rattle.std.specs.Prelude.{◌<◌, length};
 ghost use Rattle.cow_world.specs.Flat.{IsLive};
 ghost use Rattle.cow_world.specs.Fits.{FitsLevel};
 
 use crate::levels::sample;
-use cow_world::{Gap, World};
+use crate::rows::{at, behind, expect, numbers, word};
+use crate::starts::tables;
+use cow_world::World;
 use fixed_angle::PlayTables;
 use map_geometry::Level;
-use sample_inputs::play_tables;
+use std::alloc::Global;
 use std::process::Abort;
 use std::test::Fail;
 
 const UNIT: i32 = 65536;
 
-/// The heights that are sought around a sector: lowest ceiling, lowest floor, highest floor, next floor.
-fn heights(level: &Level, world: &World, sector: u32) -> [i32; 4]
+/// A height in map units, where it is a whole number of them.
+fn units(height: i32) -> i64 {
+    if height % UNIT == 0 {
+        i64::from(height / UNIT)
+    } else {
+        i64::MIN
+    }
+}
+
+/// The heights around a sector, if it is there: lowest ceiling, lowest floor, highest floor, next floor.
+fn heights(level: &Level, world: &World, sector: u32) -> [i64; 4]
     requires fits { FitsLevel level.now world.now }
-    requires there { sector < length level.now.sectors }
 {
+    if sector as usize >= level.sector_count() {
+        return [-1; 4];
+    }
     [
-        world.lowest_ceiling_around(level, sector),
-        world.lowest_floor_around(level, sector),
-        world.highest_floor_around(level, sector),
-        world.next_floor_around(level, sector),
+        units(world.lowest_ceiling_around(level, sector)),
+        units(world.lowest_floor_around(level, sector)),
+        units(world.highest_floor_around(level, sector)),
+        units(world.next_floor_around(level, sector)),
     ]
 }
 
-fn shows_heights(rt: &impl Abort, level: &Level, world: &World) -> Result<(), Fail>
+/// The gap of a line, if it is there: its range, top, bottom and low.
+fn gap(level: &Level, world: &World, line: u32) -> [i64; 4]
     requires fits { FitsLevel level.now world.now }
 {
-    if level.sector_count() < 2 || level.line_count() < 2 {
-        return Err(Fail::from("the level has two sectors"));
+    if line as usize >= level.line_count() {
+        return [-1; 4];
     }
-    assert_eq!(rt;
-        heights(level, world, 0),
-        [96 * UNIT, 0, 24 * UNIT, 24 * UNIT]
-    );
-    assert_eq!(rt; heights(level, world, 1), [128 * UNIT, 0, 0, 24 * UNIT]);
-    let between = Gap {
-        range: 72 * UNIT,
-        top: 96 * UNIT,
-        bottom: 24 * UNIT,
-        low: 0,
-    };
-    assert_eq!(rt; world.gap(level, 0), between);
-    assert_eq!(rt; world.gap(level, 1).range, 0);
+    let gap = world.gap(level, line);
+    [
+        units(gap.range),
+        units(gap.top),
+        units(gap.bottom),
+        units(gap.low),
+    ]
+}
+
+/// A sector (0) or a line (1), its number, and its heights or its gap in map units. The second line is a wall.
+const HEIGHTS: &str = "\
+0 0 96 0 24 24
+0 1 128 0 0 24
+1 0 72 96 24 0
+1 1 0 0 0 0";
+
+fn expect_heights(rt: &impl Abort, alloc: Global, level: &Level, world: &World) -> Result<(), Fail>
+    requires fits { FitsLevel level.now world.now }
+{
+    for line in HEIGHTS.lines() {
+        let row = numbers(alloc, line)?;
+        let found = if at(&row, 0) == 0 {
+            heights(level, world, word(&row, 1))
+        } else {
+            gap(level, world, word(&row, 1))
+        };
+        expect(rt, line, &found, behind(&row, 2));
+    }
     Ok(())
 }
 
@@ -53,25 +81,34 @@ fn shows_heights(rt: &impl Abort, level: &Level, world: &World) -> Result<(), Fa
 fn heights_around(rt: HostRuntime) -> Result<(), Fail> {
     let level = sample(rt.alloc())?;
     let world = World::opening(rt.alloc(), &level)?;
-    shows_heights(&rt, &level, &world)
+    expect_heights(&rt, rt.alloc(), &level, &world)
 }
 
-fn draws(rt: &impl Abort, tables: &PlayTables, world: &mut World) -> Result<(), Fail>
+/// Two numbers that are drawn from the index 254 on, and the index then.
+fn draws(tables: &PlayTables, world: &mut World) -> [i64; 3]
     requires live { IsLive world.old }
 {
     world.set_rng(254);
-    assert_eq!(rt; world.draw(tables), 172);
-    assert_eq!(rt; world.draw(tables), 13);
-    assert_eq!(rt; world.rng(), 0);
+    let first = world.draw(tables);
+    let second = world.draw(tables);
+    [i64::from(first), i64::from(second), i64::from(world.rng())]
+}
+
+fn drawn(alloc: Global, tables: &PlayTables, level: &Level) -> Result<[i64; 3], Fail> {
+    let mut world = World::opening(alloc, level)?;
+    Ok(draws(tables, &mut world))
+}
+
+/// The index is raised before it is read, and 0 follows 255. The number at i is (97 i + 13) modulo 256.
+fn expect_drawn(rt: &impl Abort, alloc: Global, level: &Level) -> Result<(), Fail> {
+    let tables = tables(alloc)?;
+    let found = drawn(alloc, &tables, level)?;
+    expect(rt, "from 254", &found, &[172, 13, 0]);
     Ok(())
 }
 
-// The index is raised before it is read, and 0 follows 255. The number at i is (97 i + 13) modulo 256.
 #[test]
 fn random_numbers(rt: HostRuntime) -> Result<(), Fail> {
     let level = sample(rt.alloc())?;
-    let file = play_tables(rt.alloc())?;
-    let tables = PlayTables::read(rt.alloc(), &file).map_err(|_| "the tables have no fault")?;
-    let mut world = World::opening(rt.alloc(), &level)?;
-    draws(&rt, &tables, &mut world)
+    expect_drawn(&rt, rt.alloc(), &level)
 }

@@ -1,124 +1,132 @@
 //! Bodies along tables of hits and of things, with numbers worked out by hand.
+use crate::rows::{at, behind, expect, int, numbers, short};
 use health_fx::{Body, Hurt};
+use std::alloc::Global;
 use std::process::Abort;
+use std::test::Fail;
 
-/// Damage, whether in a finale, and what comes of it: the fate, health, armour and its kind.
-type Hit = (u8, bool, Hurt, i32, i32, u8);
-
-/// A thing's number, whether in Doom II, and what comes of it: whether it is taken, health, armour and its kind.
-type Find = (u16, bool, bool, i32, i32, u8);
-
-fn try_hits(rt: &impl Abort, body: &mut Body, hits: &[Hit]) {
-    for hit in hits {
-        let (damage, finale, fate, health, armour, kind) = *hit;
-        assert!(rt; damage <= 20 && body.health > 0);
-        assert_eq!(rt; body.hurt(i32::from(damage), finale), fate);
-        assert_eq!(rt;
-            (body.health, body.armour, body.kind),
-            (health, armour, kind)
-        );
+/// A hit of so many points, in a finale or not: 0 where it was kept off, 1 where the body lived, 2 where it died.
+fn hit(body: &mut Body, damage: i32, finale: bool) -> i64 {
+    if !(0..=20).contains(&damage) || body.health <= 0 {
+        return i64::MIN;
+    }
+    match body.hurt(damage, finale) {
+        Hurt::Spared => 0,
+        Hurt::Lived => 1,
+        Hurt::Died => 2,
     }
 }
 
-fn try_finds(rt: &impl Abort, body: &mut Body, finds: &[Find]) {
-    for find in finds {
-        let (number, doom2, taken, health, armour, kind) = *find;
-        assert_eq!(rt; body.take(number, doom2), taken, "{number}");
-        assert_eq!(rt;
-            (body.health, body.armour, body.kind),
-            (health, armour, kind),
-            "{number}"
-        );
+fn wait(body: &mut Body, tics: i32) -> i64 {
+    for _ in 0..tics {
+        body.tick();
     }
+    0
+}
+
+/// What comes of a row: a hit of its damage, in a finale or not; a thing of its number, in Doom II or not, which is
+/// taken or left; or so many tics.
+fn come_of(body: &mut Body, line: &str, row: &[i64]) -> i64 {
+    let flag = at(row, 2) == 1;
+    if line.starts_with("hit") {
+        hit(body, int(row, 1), flag)
+    } else if line.starts_with("find") {
+        i64::from(body.take(short(row, 1), flag))
+    } else {
+        wait(body, int(row, 1))
+    }
+}
+
+/// What came of a row, health, armour and its kind, and what is left of an invulnerability, a suit and a teleport's
+/// freeze.
+fn shown(came: i64, body: &Body) -> [i64; 7] {
+    [
+        came,
+        i64::from(body.health),
+        i64::from(body.armour),
+        i64::from(body.kind),
+        i64::from(body.guard),
+        i64::from(body.suit),
+        i64::from(body.react),
+    ]
+}
+
+/// Each row: what is done, what comes of it, and the body then.
+fn expect_rows(rt: &impl Abort, alloc: Global, body: &mut Body, rows: &str) -> Result<(), Fail> {
+    for line in rows.lines() {
+        let row = numbers(alloc, line)?;
+        let came = come_of(body, line, &row);
+        expect(rt, line, &shown(came, body), behind(&row, 3));
+    }
+    Ok(())
 }
 
 /// A green suit saves a third, a blue one half, and a scrap of armour no more than it has.
-#[test]
-fn armour(rt: HostRuntime) {
-    let mut body = Body::new(false);
-    try_finds(&rt, &mut body, &[(2015, false, true, 100, 1, 1)]);
-    let scrap = [
-        (2, false, Hurt::Lived, 98, 1, 1),
-        (20, false, Hurt::Lived, 79, 0, 0),
-    ];
-    try_hits(&rt, &mut body, &scrap);
-    try_finds(&rt, &mut body, &[(2018, false, true, 79, 100, 1)]);
-    let green = [
-        (20, false, Hurt::Lived, 65, 94, 1),
-        (5, false, Hurt::Lived, 61, 93, 1),
-        (2, false, Hurt::Lived, 59, 93, 1),
-    ];
-    try_hits(&rt, &mut body, &green);
-    try_finds(&rt, &mut body, &[(2019, false, true, 59, 200, 2)]);
-    let blue = [
-        (5, false, Hurt::Lived, 56, 198, 2),
-        (20, false, Hurt::Lived, 46, 188, 2),
-    ];
-    try_hits(&rt, &mut body, &blue);
-}
+const ARMOUR: &str = "\
+find 2015 0 1 100 1 1 0 0 0
+hit 2 0 1 98 1 1 0 0 0
+hit 20 0 1 79 0 0 0 0 0
+find 2018 0 1 79 100 1 0 0 0
+hit 20 0 1 65 94 1 0 0 0
+hit 5 0 1 61 93 1 0 0 0
+hit 2 0 1 59 93 1 0 0 0
+find 2019 0 1 59 200 2 0 0 0
+hit 5 0 1 56 198 2 0 0 0
+hit 20 0 1 46 188 2 0 0 0";
 
-/// In the easiest skill half of the damage is left; a finale leaves one point of health.
-#[test]
-fn skills_and_finales(rt: HostRuntime) {
-    let mut body = Body::new(true);
-    let soft = [
-        (5, false, Hurt::Lived, 98, 0, 0),
-        (1, false, Hurt::Lived, 98, 0, 0),
-        (20, true, Hurt::Lived, 88, 0, 0),
-    ];
-    try_hits(&rt, &mut body, &soft);
-    let mut body = Body::new(false);
-    let hard = [
-        (20, true, Hurt::Lived, 80, 0, 0),
-        (20, true, Hurt::Lived, 60, 0, 0),
-        (20, true, Hurt::Lived, 40, 0, 0),
-        (20, true, Hurt::Lived, 20, 0, 0),
-        (20, true, Hurt::Lived, 1, 0, 0),
-        (20, true, Hurt::Lived, 1, 0, 0),
-        (0, false, Hurt::Lived, 1, 0, 0),
-        (20, false, Hurt::Died, 0, 0, 0),
-    ];
-    try_hits(&rt, &mut body, &hard);
-}
+/// In the easiest skill half of the damage is left, also in a finale.
+const EASY: &str = "\
+hit 5 0 1 98 0 0 0 0 0
+hit 1 0 1 98 0 0 0 0 0
+hit 20 1 1 88 0 0 0 0 0";
+
+/// A finale leaves one point of health.
+const FINALE: &str = "\
+hit 20 1 1 80 0 0 0 0 0
+hit 20 1 1 60 0 0 0 0 0
+hit 20 1 1 40 0 0 0 0 0
+hit 20 1 1 20 0 0 0 0 0
+hit 20 1 1 1 0 0 0 0 0
+hit 20 1 1 1 0 0 0 0 0
+hit 0 0 1 1 0 0 0 0 0
+hit 20 0 2 0 0 0 0 0 0";
 
 /// What each thing restores, and who leaves it.
-#[test]
-fn things(rt: HostRuntime) {
-    let mut body = Body::new(false);
-    try_hits(&rt, &mut body, &[(20, false, Hurt::Lived, 80, 0, 0)]);
-    let finds = [
-        (2011, false, true, 90, 0, 0),
-        (2012, false, true, 100, 0, 0),
-        (2011, false, false, 100, 0, 0),
-        (2014, false, true, 101, 0, 0),
-        (2012, false, false, 101, 0, 0),
-        (2023, false, true, 101, 0, 0),
-        (2013, false, true, 200, 0, 0),
-        (2014, false, true, 200, 0, 0),
-        (2018, false, true, 200, 100, 1),
-        (2018, false, false, 200, 100, 1),
-        (2015, false, true, 200, 101, 1),
-        (83, false, false, 200, 101, 1),
-        (83, true, true, 200, 200, 2),
-        (2019, false, false, 200, 200, 2),
-        (2015, false, true, 200, 200, 2),
-        (5, true, false, 200, 200, 2),
-    ];
-    try_finds(&rt, &mut body, &finds);
-}
+const THINGS: &str = "\
+hit 20 0 1 80 0 0 0 0 0
+find 2011 0 1 90 0 0 0 0 0
+find 2012 0 1 100 0 0 0 0 0
+find 2011 0 0 100 0 0 0 0 0
+find 2014 0 1 101 0 0 0 0 0
+find 2012 0 0 101 0 0 0 0 0
+find 2023 0 1 101 0 0 0 0 0
+find 2013 0 1 200 0 0 0 0 0
+find 2014 0 1 200 0 0 0 0 0
+find 2018 0 1 200 100 1 0 0 0
+find 2018 0 0 200 100 1 0 0 0
+find 2015 0 1 200 101 1 0 0 0
+find 83 0 0 200 101 1 0 0 0
+find 83 1 1 200 200 2 0 0 0
+find 2019 0 0 200 200 2 0 0 0
+find 2015 0 1 200 200 2 0 0 0
+find 5 1 0 200 200 2 0 0 0";
 
-/// An invulnerability lasts 1050 tics, a radiation suit 2100.
+/// An invulnerability lasts 1050 tics, a radiation suit 2100. A hit that is kept off leaves a freeze.
+const POWERS: &str = "\
+find 2022 0 1 100 0 0 1050 0 18
+find 2025 0 1 100 0 0 1050 2100 18
+hit 20 0 0 100 0 0 1050 2100 18
+wait 1050 0 0 100 0 0 0 1050 18
+hit 20 0 1 80 0 0 0 1050 0";
+
 #[test]
-fn powers(rt: HostRuntime) {
-    let mut body = Body::new(false);
-    body.react = 18;
-    assert!(rt; body.take(2022, false) && body.take(2025, false));
-    try_hits(&rt, &mut body, &[(20, false, Hurt::Spared, 100, 0, 0)]);
-    assert_eq!(rt; body.react, 18);
-    for _ in 0..1050 {
-        body.tick();
-    }
-    assert_eq!(rt; (body.guard, body.suit), (0, 1050));
-    try_hits(&rt, &mut body, &[(20, false, Hurt::Lived, 80, 0, 0)]);
-    assert_eq!(rt; body.react, 0);
+fn rows_of_bodies(rt: HostRuntime) -> Result<(), Fail> {
+    let alloc = rt.alloc();
+    expect_rows(&rt, alloc, &mut Body::new(false), ARMOUR)?;
+    expect_rows(&rt, alloc, &mut Body::new(true), EASY)?;
+    expect_rows(&rt, alloc, &mut Body::new(false), FINALE)?;
+    expect_rows(&rt, alloc, &mut Body::new(false), THINGS)?;
+    let mut frozen = Body::new(false);
+    frozen.react = 18;
+    expect_rows(&rt, alloc, &mut frozen, POWERS)
 }

@@ -14,7 +14,7 @@ mod lights;
 #[cfg(test)]
 mod links;
 #[cfg(test)]
-mod orders;
+mod rows;
 #[cfg(test)]
 mod starts;
 #[cfg(test)]

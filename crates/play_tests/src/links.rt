@@ -3,10 +3,11 @@ ghost use Rattle.std.specs.Prelude.{OnOk};
 ghost use Rattle.play_tests.specs.Open.{IsOpen};
 
 use crate::levels::{opened, sample};
+use crate::rows::{behind, expect, int, numbers};
 use cow_world::{Thing, World};
 use doom_edge::{Memory, Steps};
 use map_geometry::Level;
-use std::alloc::Global;
+use std::alloc::{AllocError, Global};
 use std::process::Abort;
 use std::test::Fail;
 
@@ -69,6 +70,12 @@ impl Link {
     }
 }
 
+const FIRST: Link = Link {
+    thing: 0,
+    x: 0,
+    y: 0,
+};
+
 /// Links a thing where there is one.
 fn relink(level: &Level, world: &mut World, link: Link, steps: &mut Steps) -> Result<(), Memory>
     requires { IsOpen level.now world.old }
@@ -80,15 +87,20 @@ fn relink(level: &Level, world: &mut World, link: Link, steps: &mut Steps) -> Re
     Ok(())
 }
 
-/// The same in the plain list, the last linked first.
-fn list_first(list: &mut Vec<Link>, link: Link) -> Result<(), Fail> {
-    list.retain(|other| other.thing != link.thing);
-    list.insert(0, link)?;
-    Ok(())
+/// The same in the plain list: the last linked first, and each thing once.
+fn listed_first(alloc: Global, list: &[Link], link: Link) -> Result<Vec<Link>, AllocError> {
+    let mut links = Vec::new(alloc);
+    links.push(link)?;
+    for other in list {
+        if other.thing != link.thing {
+            links.push(*other)?;
+        }
+    }
+    Ok(links)
 }
 
 /// The present things of a block by the plain list.
-fn listed(alloc: Global, list: &[Link], column: i32, row: i32) -> Result<Vec<u32>, Fail> {
+fn listed(alloc: Global, list: &[Link], column: i32, row: i32) -> Result<Vec<u32>, AllocError> {
     let mut things = Vec::new(alloc);
     let in_grid = (0..9).contains(&column) && (0..9).contains(&row);
     for link in list {
@@ -99,158 +111,205 @@ fn listed(alloc: Global, list: &[Link], column: i32, row: i32) -> Result<Vec<u32
     Ok(things)
 }
 
-/// Compares each block of the grid and those around it.
-fn compare(
-    rt: &impl Abort,
+/// Whether a column's blocks, and one on either side, hold what they hold in the plain list.
+fn agree_in(
     alloc: Global,
     level: &Level,
     world: &World,
     list: &[Link],
-) -> Result<(), Fail>
+    column: i32,
+) -> Result<bool, Fail>
     requires { IsOpen level.now world.now }
 {
     let mut out = Vec::new(alloc);
-    for column in -1..10 {
-        for row in -1..10 {
-            world.linked_in(level, column, row, &mut out)?;
-            let want = listed(alloc, list, column, row)?;
-            assert_eq!(rt; out.as_slice(), want.as_slice(), "in {column}, {row}");
+    for row in -1..10 {
+        world.linked_in(level, column, row, &mut out)?;
+        if out.as_slice() != listed(alloc, list, column, row)?.as_slice() {
+            return Ok(false);
         }
     }
-    Ok(())
+    Ok(true)
 }
 
-/// Links things a hundred times, and gives the plain list of them.
-fn link_hundred(
-    alloc: Global,
-    level: &Level,
-    world: &mut World,
-    steps: &mut Steps,
-) -> Result<Vec<Link>, Fail>
+/// No column.
+const NONE: i64 = 100;
+
+/// The first column, of the grid and of those beside it, in which a block holds something else than in the plain list.
+fn wrong_column(alloc: Global, level: &Level, world: &World, list: &[Link]) -> Result<i64, Fail>
+    requires { IsOpen level.now world.now }
+{
+    for column in -1..10 {
+        if !agree_in(alloc, level, world, list, column)? {
+            return Ok(i64::from(column));
+        }
+    }
+    Ok(NONE)
+}
+
+/// Spawns the things, links them a hundred times, and gives the plain list of them.
+fn link_hundred(alloc: Global, level: &Level, world: &mut World) -> Result<Vec<Link>, Fail>
     requires { IsOpen level.now world.old }
     ensures { OnOk result (IsOpen level.now world.new) }
 {
+    let mut steps = Steps::new();
+    spawn(level, world, &mut steps)?;
     let mut list = Vec::new(alloc);
     for number in 0..100 {
         let next = Link::numbered(number);
-        relink(level, world, next, steps)?;
-        list_first(&mut list, next)?;
+        relink(level, world, next, &mut steps)?;
+        list = listed_first(alloc, &list, next)?;
     }
     Ok(list)
 }
 
+/// The wrong column of a fork after its origin was linked anew.
+fn wrong_after(
+    alloc: Global,
+    level: &Level,
+    origin: &mut World,
+    fork: &World,
+    list: &[Link],
+) -> Result<i64, Fail>
+    requires origin { IsOpen level.now origin.old }
+    requires fork { IsOpen level.now fork.now }
+{
+    relink(level, origin, FIRST, &mut Steps::new())?;
+    wrong_column(alloc, level, fork, list)
+}
+
 /// A fork keeps its order where the origin is linked anew.
-fn fork_apart(
-    rt: &impl Abort,
+fn wrong_in_fork(
     alloc: Global,
     level: &Level,
     world: &mut World,
     list: &[Link],
-    steps: &mut Steps,
-) -> Result<(), Fail>
+) -> Result<i64, Fail>
     requires { IsOpen level.now world.old }
 {
-    let fork = world.fork(steps)?;
-    relink(
-        level,
-        world,
-        Link {
-            thing: 0,
-            x: 0,
-            y: 0,
-        },
-        steps,
-    )?;
-    compare(rt, alloc, level, &fork, list)
+    let fork = world.fork(&mut Steps::new())?;
+    wrong_after(alloc, level, world, &fork, list)
 }
 
-/// A hundred links of ten things, in a world and in a fork of it.
-fn try_hundred(rt: &impl Abort, alloc: Global, level: &Level) -> Result<(), Fail> {
+/// A hundred links of ten things: the wrong columns of the world and of a fork of it.
+fn wrong_columns(alloc: Global, level: &Level, world: &mut World) -> Result<[i64; 2], Fail>
+    requires { IsOpen level.now world.old }
+{
+    let list = link_hundred(alloc, level, world)?;
+    let own = wrong_column(alloc, level, world, &list)?;
+    Ok([own, wrong_in_fork(alloc, level, world, &list)?])
+}
+
+fn expect_links(rt: &impl Abort, alloc: Global, level: &Level) -> Result<(), Fail> {
     let mut world = opened(alloc, level)?;
-    let mut steps = Steps::new();
-    spawn(level, &mut world, &mut steps)?;
-    let list = link_hundred(alloc, level, &mut world, &mut steps)?;
-    compare(rt, alloc, level, &world, &list)?;
-    fork_apart(rt, alloc, level, &mut world, &list, &mut steps)
+    let wrong = wrong_columns(alloc, level, &mut world)?;
+    expect(rt, "wrong columns", &wrong, &[NONE, NONE]);
+    Ok(())
 }
 
 #[test]
 fn hundred_links(rt: HostRuntime) -> Result<(), Fail> {
     let level = sample(rt.alloc())?;
-    try_hundred(&rt, rt.alloc(), &level)
+    expect_links(&rt, rt.alloc(), &level)
 }
 
-/// The block in which thing 0 is linked, if there is one.
-fn block_of_first(alloc: Global, level: &Level, world: &World) -> Result<Option<(i32, i32)>, Fail>
+/// The row of a column's block in which thing 0 is linked, if there is one.
+fn row_of_first(
+    alloc: Global,
+    level: &Level,
+    world: &World,
+    column: i32,
+) -> Result<Option<i32>, Memory>
     requires { IsOpen level.now world.now }
 {
     let mut out = Vec::new(alloc);
-    for column in [
-        i32::MIN,
-        -252,
-        -1,
-        0,
-        1,
-        2,
-        3,
-        4,
-        5,
-        6,
-        7,
-        8,
-        9,
-        252,
-        i32::MAX,
-    ] {
-        for row in -1..10 {
-            world.linked_in(level, column, row, &mut out)?;
-            if out.contains(&0) {
-                return Ok(Some((column, row)));
-            }
+    for row in -1..10 {
+        world.linked_in(level, column, row, &mut out)?;
+        if out.contains(&0) {
+            return Ok(Some(row));
         }
     }
     Ok(None)
 }
 
-/// Places, and the column and row of the block in which each lies.
-const BORDERS: [(i32, i32, Option<(i32, i32)>); 11] = [
-    (-512 * UNIT, -512 * UNIT, Some((0, 0))),
-    (-512 * UNIT - 1, -512 * UNIT, None),
-    (-512 * UNIT, -512 * UNIT - 1, None),
-    (-384 * UNIT - 1, 0, Some((0, 4))),
-    (-384 * UNIT, 0, Some((1, 4))),
-    (0, -384 * UNIT, Some((4, 1))),
-    (640 * UNIT - 1, 640 * UNIT - 1, Some((8, 8))),
-    (640 * UNIT, 0, None),
-    (0, 640 * UNIT, None),
-    (i32::MIN, 0, None),
-    (i32::MAX, 0, None),
-];
+/// Columns of the grid, beside it, and so far off that their way to it wraps.
+const COLUMNS: &str = "-2147483648 -252 -1 0 1 2 3 4 5 6 7 8 9 252 2147483647";
 
-/// Links thing 0 at each of those places, and looks where it stands then.
-fn try_borders(
+/// The column and row of the block in which thing 0 is linked; -1 and -1 where there is none.
+fn block_of_first(
+    alloc: Global,
+    level: &Level,
+    world: &World,
+    columns: &[i64],
+) -> Result<[i64; 2], Memory>
+    requires { IsOpen level.now world.now }
+{
+    for place in 0..columns.len() {
+        let column = int(columns, place);
+        if let Some(row) = row_of_first(alloc, level, world, column)? {
+            return Ok([i64::from(column), i64::from(row)]);
+        }
+    }
+    Ok([-1, -1])
+}
+
+/// Places in fixed point, on the borders of blocks (-512, -384 and 640 units) and far off, and the column and row of
+/// the block in which each lies.
+const BORDERS: &str = "\
+-33554432 -33554432 0 0
+-33554433 -33554432 -1 -1
+-33554432 -33554433 -1 -1
+-25165825 0 0 4
+-25165824 0 1 4
+0 -25165824 4 1
+41943039 41943039 8 8
+41943040 0 -1 -1
+0 41943040 -1 -1
+-2147483648 0 -1 -1
+2147483647 0 -1 -1";
+
+/// Links thing 0 at a place, and tells where it stands then.
+fn block_at(
+    alloc: Global,
+    level: &Level,
+    world: &mut World,
+    row: &[i64],
+    columns: &[i64],
+) -> Result<[i64; 2], Memory>
+    requires { IsOpen level.now world.old }
+    ensures { OnOk result (IsOpen level.now world.new) }
+{
+    let (x, y) = (int(row, 0), int(row, 1));
+    relink(level, world, Link { x, y, ..FIRST }, &mut Steps::new())?;
+    block_of_first(alloc, level, world, columns)
+}
+
+fn expect_borders(
     rt: &impl Abort,
     alloc: Global,
     level: &Level,
     world: &mut World,
-    steps: &mut Steps,
+    columns: &[i64],
 ) -> Result<(), Fail>
     requires { IsOpen level.now world.old }
 {
-    for (x, y, block) in BORDERS {
-        relink(level, world, Link { thing: 0, x, y }, steps)?;
-        let found = block_of_first(alloc, level, world)?;
-        assert_eq!(rt; found, block, "at {x}, {y}");
+    spawn(level, world, &mut Steps::new())?;
+    for line in BORDERS.lines() {
+        let row = numbers(alloc, line)?;
+        let found = block_at(alloc, level, world, &row, columns)?;
+        expect(rt, line, &found, behind(&row, 2));
     }
     Ok(())
 }
 
-// A thing on the border of a block and outside the grid, where a place so far off that its way wraps is outside too.
+fn expect_blocks(rt: &impl Abort, alloc: Global, level: &Level) -> Result<(), Fail> {
+    let columns = numbers(alloc, COLUMNS)?;
+    let mut world = opened(alloc, level)?;
+    expect_borders(rt, alloc, level, &mut world, &columns)
+}
+
+/// A thing on the border of a block and outside the grid, where a place so far off that its way wraps is outside too.
 #[test]
 fn borders_of_blocks(rt: HostRuntime) -> Result<(), Fail> {
     let level = sample(rt.alloc())?;
-    let mut world = opened(rt.alloc(), &level)?;
-    let mut steps = Steps::new();
-    spawn(&level, &mut world, &mut steps)?;
-    try_borders(&rt, rt.alloc(), &level, &mut world, &mut steps)
+    expect_blocks(&rt, rt.alloc(), &level)
 }
