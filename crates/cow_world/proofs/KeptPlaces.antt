@@ -1,5 +1,5 @@
 -- Thinkers of which those that have ended may be left out.
-use Rattle.std.proofs.Common.{◌≡◌, ◌≢◌, ℕ, suc, ◌+◌, ◌*◌, ◌<◌, ◌≤◌, ◌==◌, Bool, true, false, List, [], ◌∷◌, ◌++◌, length, get_or, set, slice_get, Option, Some, None, map, filter, take, All, refl, sym, ap, ◌∙◌, inl, inr, arith, length-append, length-set, zero-add}
+use Rattle.std.proofs.Common.{◌≡◌, ◌≢◌, ℕ, zero, suc, ◌+◌, ◌-◌, ◌*◌, ◌<◌, ◌≤◌, ◌==◌, Bool, true, false, List, [], ◌∷◌, ◌++◌, length, get_or, set, slice_get, Option, Some, None, map, filter, take, All, refl, sym, ap, ◌∙◌, inl, inr, arith, length-append, length-set, zero-add}
 use Rattle.std.specs.Prelude.{find, position, nat_lt}
 use Rattle.std.specs.List.{range_with_len, position_or_len}
 use Rattle.std.specs.Option.{option_or}
@@ -309,6 +309,22 @@ module _ (kept : List Placed) (rise : Rise kept) where
   stands_first place k there at =
       position_is (stands_at place) kept k no_entry there (eq-eqb (get_or kept k no_entry).place place at)
       (λ j before. ne_eqb (get_or kept j no_entry).place place (λ same. omega (arith, at, same, rise j k no_entry before there)))
+
+  at_least : (k : ℕ) → k < length kept → k ≤ (get_or kept k no_entry).place
+  at_least zero there = omega arith
+  at_least (suc k) there = omega (arith, at_least k (omega (arith, there)), rise k (suc k) no_entry (omega arith) there)
+
+  at_most : (made : ℕ) → AreMade made kept → (left k : ℕ) → k + left + 1 ≡ length kept → (get_or kept k no_entry).place + left < made
+  at_most made below zero k is = omega (arith, All-get_or (λ (entry : Placed). entry.place < made) kept k no_entry (omega (arith, is)) below)
+  at_most made below (suc left) k is =
+      omega (arith, at_most made below left (k + 1) (omega (arith, is)), rise k (k + 1) no_entry (omega arith) (omega (arith, is)))
+
+  -- where as many are kept as were made, each stands at its place
+  pub stands_whole : (made place : ℕ) → AreMade made kept → length kept ≡ made → place < made → position (stands_at place) kept ≡ Some place
+  stands_whole made place below whole there =
+      let least = at_least place (omega (arith, whole, there)) in
+      let most = at_most made below (made - place - 1) place (omega (arith, whole, there)) in
+      stands_first place place (omega (arith, whole, there)) (omega (arith, there, least, most))
 
   -- those before the k-th stand before the place, the others not, and the k-th is not there
   pub stands_nowhere : (place k : ℕ) → ((j : ℕ) → j < k → (get_or kept j no_entry).place < place) → ((j : ℕ) → k ≤ j → j < length kept → place ≤ (get_or kept j no_entry).place) → (k < length kept → (get_or kept k no_entry).place ≢ place) → position (stands_at place) kept ≡ None

@@ -254,7 +254,7 @@ impl KeptThinkers {
     fn leaves_out(&self) -> bool
         ensures { IsTrue result → self.now.revived.items ≡ [] }
     {
-        self.revived.is_empty() && self.kept.len() < self.made as usize
+        self.revived.is_empty() && !self.is_whole()
     }
 
     // Leaves out the thinkers that have ended, once they are many and at least half of those that are kept. So what is
@@ -295,20 +295,31 @@ impl KeptThinkers {
         Ok(running)
     }
 
-    // Where the thinker at a place is kept. It is looked for first where it stands if none before it was left out.
+    // Where the thinker at a place is kept. If none is left out, or none before it, it stands at its place.
     fn position(&self, base: &[Placed], place: u32) -> Option<usize>
-        requires over { IsOver base.now self.now.kept }
-        requires rise { Rise (seen base.now self.now.kept) }
+        requires list { IsKeptThinkers base.now self.now }
+        requires there { place < length (thinkers_in base.now self.now) }
         ensures { result ≡ position (stands_at place) (seen base.now self.now.kept) }
     {
-        if self.stands_there(base, place as usize, place) {
-            return Some(place as usize);
+        let own = place as usize;
+        if self.is_whole() {
+            return Some(own);
+        }
+        if self.stands_there(base, own, place) {
+            return Some(own);
         }
         let k = self.first_from(base, place);
         if self.stands_there(base, k, place) {
             return Some(k);
         }
         None
+    }
+
+    // Whether none is left out.
+    fn is_whole(&self) -> bool
+        ensures { (base : List PlacedValue) → IsOver base self.now.kept → IsTrue result → length (seen base self.now.kept) ≡ self.now.made }
+    {
+        self.kept.len() == self.made as usize
     }
 
     // Whether the k-th that is kept is the one at a place.
