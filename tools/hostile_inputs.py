@@ -193,6 +193,18 @@ def seeks(size):
     return {"d.lmp": h.demo(h.tic() * size), "s.script": b"delete\n" + lines * (size // 20)}
 
 
+def edits_all_over(size):
+    """So many tics of a full demo that are deleted, and others that are inserted, each far from the one before."""
+    places = [k * 618_034 % (MILLION - 1) for k in range(2 * size)]
+    lines = b"".join(b"seek %d\ndelete\nseek %d\ninsert 1 0 0 0\n" % pair for pair in zip(places[::2], places[1::2]))
+    return {"d.lmp": h.demo(h.tic() * MILLION), "s.script": lines}
+
+
+def puts_amid(size):
+    """So many tics put in the middle of a full demo, each of which is shown."""
+    return level_files(h.Level().wad(), h.demo(h.tic() * MILLION), b"seek 500000\n" + b"put 1 0 0 0\nshow\n" * size)
+
+
 def ordered(size):
     """Searches of one sequence by two hands, under an order in which the second comes last."""
     files = level_files(h.Level().wad(), script=b"brute 1\nwant exit\ngo\n" * (size // 40))

@@ -1,14 +1,21 @@
 -- An edit leaves the tics before the cursor, and so the worlds that are kept along them.
 use Rattle.std.proofs.Common.{ℕ, ◌≤◌, ◌≡◌, ◌==◌, ◌+◌, nat_lt, ◌++◌, List, [], ◌∷◌, length, take, drop, Bool, true, false, if◌then◌else◌, arith, ap, sym, ◌∙◌, append_assoc, Ok, Err}
-use Rattle.std.proofs.lemmas.List.{take_at, length-append}
+use Rattle.std.proofs.lemmas.List.{take_at, take-append-drop, length-append}
 use Rattle.lmp_codec.specs.Demo.{most_tics}
 use Rattle.lmp_codec.specs.declared.input.Tic.{Tic}
 use Rattle.game_trait.specs.declared.game.Game.{Ghosts}
 use Rattle.key_frames.specs.Frames.{AreFrames}
-use Rattle.build_edits.specs.Parts.{Parts, all_tics}
+use Rattle.build_edits.specs.Parts.{Parts, all_tics, parts_at}
 use Rattle.build_edits.specs.Edits.{put_outcome, insert_outcome, delete_outcome, cut_outcome, repeat_outcome, accept_outcome, copies, last_of}
 use Rattle.build_edits.specs.declared.fault.EditFault.{EditFault}
 use Rattle.build_edits.specs.declared.fault.EditFault.TheVariants.{Before, TooLong}
+
+-- some tics at the front of a list, and the rest of it, are the two parts at any place
+pub front_and_rest : (front tics : List Tic) (len place : ℕ)
+    → front ≡ take len tics
+    → front ++ drop len tics ≡ all_tics (parts_at tics place)
+front_and_rest front tics len place is =
+    ap (λ (x : List Tic). x ++ drop len tics) is ∙ take-append-drop len tics ∙ sym (take-append-drop place tics)
 
 -- the tics before the old cursor stand at the front of the new tape
 pub record Keeps (old new : Parts) : Type 0 where

@@ -1,4 +1,6 @@
+pub mod Replaced
+pub mod Joined
 pub mod Builds
-pub mod Gaps
 pub mod Held
+pub mod Reels
 pub mod Sessions

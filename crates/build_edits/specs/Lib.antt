@@ -1,5 +1,5 @@
 pub mod Parts
-pub mod Gaps
+pub mod Kept
 pub mod Edits
 pub mod Built
 pub mod Lists

@@ -1,4 +1,4 @@
-ghost use Rattle.std.specs.Prelude.{◌≡◌, ◌+◌, ◌-◌, ◌<◌, ◌≤◌, ◌↔◌, max, [], length, IsTrue, IfOk, OnOk};
+ghost use Rattle.std.specs.Prelude.{◌≡◌, ◌+◌, ◌-◌, ◌<◌, ◌≤◌, ◌↔◌, max, [], length, slice_get, IsTrue, IfOk, OnOk};
 ghost use Rattle.doom_edge.specs.Counts.{raised};
 ghost use Rattle.lmp_codec.specs.Demo.{most_tics};
 ghost use Rattle.game_trait.specs.Replay.{IsReplay};
@@ -49,12 +49,11 @@ impl<G: Game> Build<G> {
         &self.game
     }
 
-    /// The tics before the cursor, in order.
-    pub fn before(&self) -> &[Tic]
-        ensures before { result.now ≡ self.now.tape.before }
-        ensures within { length result.now ≤ most_tics }
+    /// The tic at a place, if there is one.
+    pub fn tic(&self, place: u32) -> Option<Tic>
+        ensures tic { result ≡ slice_get (all_tics self.now.tape) place }
     {
-        self.tape.before()
+        self.tape.tic(place)
     }
 
     /// How many tics there are.
@@ -97,7 +96,8 @@ impl<G: Game> Build<G> {
         ensures pages_never_fall { steps.old.pages ≤ steps.new.pages }
     {
         let place = self.tape.cursor();
-        let tics = self.tape.before();
+        self.tape.tics.gather(place as usize)?;
+        let tics = self.tape.tics.front();
         self.frames.world_at(alloc, &self.game, place, tics, steps)
     }
 

@@ -2,10 +2,12 @@
 //! at the cursor.
 #![tactic(auto)]
 
+mod blocks;
 mod build;
 mod fault;
 mod laws;
 mod list;
+mod pieces;
 mod reel;
 
 pub use build::Build;

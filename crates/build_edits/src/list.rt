@@ -1,127 +1,177 @@
-//! The steps of the edits, on a vector of tics with a gap at a place of it.
-ghost use Rattle.std.specs.Prelude.{◌≡◌, ◌+◌, ◌-◌, ◌<◌, ◌≤◌, ◌++◌, max, length, take, drop, replicate, slice_index_or, IfOk, OnOk, OnErr, Err};
-ghost use Rattle.lmp_codec.specs.Demo.{most_tics};
-ghost use Rattle.build_edits.specs.Parts.{all_tics, parts_at};
-ghost use Rattle.build_edits.specs.Edits.{inserted};
-ghost use Rattle.build_edits.specs.Gaps.{gapped, IsGapped};
+ghost use Rattle.std.specs.Prelude.{◌≡◌, ◌+◌, ◌<◌, ◌≤◌, [], length, take, slice_get, Some, IfOk, OnOk, OnErr};
+ghost use Rattle.build_edits.specs.Edits.{copies};
+ghost use Rattle.build_edits.specs.Kept.{replaced, most_kept};
 
-use crate::fault::EditFault;
-use lmp_codec::{MOST_TICS, Tic};
+use crate::blocks::LONG_BLOCK;
+use crate::{blocks, pieces};
+use doom_edge::Memory;
+use lmp_codec::Tic;
+use std::marker::Model;
 
-/// The fewest places of a new gap, where so many fit.
-const NEW_GAP: usize = 64;
+/// A list of tics, in which an edit costs no more at one place than at another: seen as the tics, and how many of
+/// them stand in one piece.
+///
+/// Those are its front, and the others stand in blocks behind it. An edit in the front, but for its end, first makes
+/// a block of what stands behind the place.
+#[derive(Drop)]
+pub struct TicList {
+    front: Vec<Tic>,
+    blocks: Vec<Vec<Tic>>,
+    behind: usize,
+}
 
-/// Moves the gap to another place among the tics, over those in between.
-pub fn move_gap(kept: &mut Vec<Tic>, cursor: usize, gap: usize, to: usize)
-    requires gap { IsGapped kept.old.items cursor gap }
-    requires inside { to + gap ≤ length kept.old.items }
-    ensures moved { gapped kept.new.items to gap ≡ parts_at (all_tics (gapped kept.old.items cursor gap)) to }
-    ensures len { length kept.new.items ≡ length kept.old.items }
-{
-    if to < cursor {
-        kept.copy_within(to..cursor, to + gap);
-    } else {
-        kept.copy_within(cursor + gap..to + gap, cursor);
+impl Model for TicList {
+    ghost use Rattle.std.specs.Prelude.{◌≡◌, ◌+◌, ◌≤◌, ◌++◌, length};
+    ghost use Rattle.build_edits.specs.Kept.{Kept, joined, most_kept};
+
+    ghost Value = { Kept };
+
+    ghost view = { λ t. record { tics = t.front.items ++ joined t.blocks.items; front = length t.front.items } };
+
+    ghost invariant = { λ t. (t.behind ≡ length (joined t.blocks.items)) × (length t.front.items + t.behind ≤ most_kept) };
+}
+
+impl TicList {
+    /// The list of these tics, in one piece.
+    pub fn new(tics: Vec<Tic>) -> TicList
+        requires { length tics.items ≤ most_kept }
+        ensures tics { result.tics ≡ tics.items }
+    {
+        let blocks = Vec::new(*tics.allocator());
+        TicList {
+            front: tics,
+            blocks,
+            behind: 0,
+        }
     }
-}
 
-/// Makes the vector this long. What is added means nothing.
-fn lengthen(kept: &mut Vec<Tic>, len: usize) -> Result<(), EditFault>
-    requires { length kept.old.items ≤ len }
-    ensures front { OnOk result (take (length kept.old.items) kept.new.items ≡ kept.old.items) }
-    ensures len { OnOk result (length kept.new.items ≡ len) }
-    ensures err { OnErr result (kept.new.items ≡ kept.old.items) }
-    ensures memory { OnErr result (result ≡ Err EditFault.Memory) }
-{
-    kept.resize(len, Tic::of_numbers(0, 0, 0, 0))?;
-    Ok(())
-}
-
-/// Opens a gap at a place where there is none, about as long as all the tics, so that it is seldom done.
-fn open_gap(kept: &mut Vec<Tic>, cursor: usize) -> Result<usize, EditFault>
-    requires inside { cursor ≤ length kept.old.items }
-    requires room { length kept.old.items < most_tics }
-    ensures same { IfOk result (λ gap. gapped kept.new.items cursor gap ≡ gapped kept.old.items cursor 0) }
-    ensures gap { IfOk result (λ gap. 0 < gap) }
-    ensures fits { IfOk result (IsGapped kept.new.items cursor) }
-    ensures err { OnErr result (kept.new.items ≡ kept.old.items) }
-    ensures memory { OnErr result (result ≡ Err EditFault.Memory) }
-{
-    let len = kept.len();
-    let longer = (len + len.max(NEW_GAP)).min(MOST_TICS);
-    lengthen(kept, longer)?;
-    move_gap(kept, len, longer - len, cursor);
-    Ok(longer - len)
-}
-
-/// Writes the tic in front of the gap, and answers how long the gap behind it is.
-pub fn insert_at(
-    kept: &mut Vec<Tic>,
-    cursor: usize,
-    gap: usize,
-    tic: Tic,
-) -> Result<usize, EditFault>
-    requires gap { IsGapped kept.old.items cursor gap }
-    requires room { length kept.old.items - gap < most_tics }
-    ensures ok { IfOk result (λ left. gapped kept.new.items (cursor + 1) left ≡ inserted tic (gapped kept.old.items cursor gap)) }
-    ensures fits { IfOk result (IsGapped kept.new.items (cursor + 1)) }
-    ensures err { OnErr result (kept.new.items ≡ kept.old.items) }
-    ensures memory { OnErr result (result ≡ Err EditFault.Memory) }
-{
-    let gap = gap_at(kept, cursor, gap)?;
-    kept[cursor] = tic;
-    Ok(gap - 1)
-}
-
-/// The gap at a place, opened where there is none.
-fn gap_at(kept: &mut Vec<Tic>, cursor: usize, gap: usize) -> Result<usize, EditFault>
-    requires gap { IsGapped kept.old.items cursor gap }
-    requires room { length kept.old.items - gap < most_tics }
-    ensures same { IfOk result (λ left. gapped kept.new.items cursor left ≡ gapped kept.old.items cursor gap) }
-    ensures gap { IfOk result (λ left. 0 < left) }
-    ensures fits { IfOk result (IsGapped kept.new.items cursor) }
-    ensures err { OnErr result (kept.new.items ≡ kept.old.items) }
-    ensures memory { OnErr result (result ≡ Err EditFault.Memory) }
-{
-    if gap == 0 {
-        return open_gap(kept, cursor);
+    /// How many tics there are.
+    pub fn len(&self) -> usize
+        ensures len { result ≡ length self.now.tics }
+    {
+        self.front.len() + self.behind
     }
-    Ok(gap)
-}
 
-/// Writes so many copies of the tic before the place over what stands from it on, and past the end.
-pub fn repeat_at(tics: &mut Vec<Tic>, place: usize, count: usize) -> Result<(), EditFault>
-    requires before { 0 < place }
-    requires inside { place ≤ length tics.old.items }
-    requires fits { place + count ≤ most_tics }
-    // The tic is read of the list, which has one, so the one that stands for none doesn't matter.
-    ensures ok { OnOk result ((tic : Tic) → tics.new.items
-        ≡ take place tics.old.items
-        ++ replicate count (slice_index_or tics.old.items (place - 1) tic)
-        ++ drop (place + count) tics.old.items) }
-    ensures len { OnOk result (length tics.new.items ≡ max (length tics.old.items) (place + count)) }
-    ensures err { OnErr result (tics.new.items ≡ tics.old.items) }
-    ensures memory { OnErr result (result ≡ Err EditFault.Memory) }
-{
-    let tic = tics[place - 1];
-    let end = place + count;
-    if tics.len() < end {
-        tics.resize(end, tic)?;
+    /// The tic at a place.
+    pub fn tic(&self, place: usize) -> Tic
+        requires there { place < length self.now.tics }
+        ensures tic { slice_get self.now.tics place ≡ Some result }
+    {
+        if place < self.front.len() {
+            return self.front[place];
+        }
+        blocks::tic_at(&self.blocks, place - self.front.len())
     }
-    tics[place..end].fill(tic);
-    Ok(())
-}
 
-/// Puts these tics in place of what stands from the place on.
-pub fn accept_at(tics: &mut Vec<Tic>, place: usize, found: &[Tic]) -> Result<(), EditFault>
-    requires inside { place ≤ length tics.old.items }
-    requires fits { place + length found.now ≤ most_tics }
-    ensures ok { OnOk result (tics.new.items ≡ take place tics.old.items ++ found.now) }
-    ensures err { OnErr result (tics.new.items ≡ tics.old.items) }
-    ensures memory { OnErr result (result ≡ Err EditFault.Memory) }
-{
-    tics.reserve(found.len())?;
-    tics.truncate(place);
-    tics.extend_from_slice(found)?;
-    Ok(())
+    /// So many copies of the tic at a place.
+    pub fn copies(&self, place: usize, count: usize) -> Result<Vec<Tic>, Memory>
+        requires there { place < length self.now.tics }
+        ensures copies { IfOk result (λ tics. tics.items ≡ copies count (slice_get self.now.tics place)) }
+    {
+        let mut copies = Vec::new(*self.front.allocator());
+        copies.resize(count, self.tic(place))?;
+        Ok(copies)
+    }
+
+    /// Puts these tics in front of the one at a place, or at the end.
+    pub fn insert(&mut self, place: usize, others: &[Tic]) -> Result<(), Memory>
+        requires inside { place ≤ length self.old.tics }
+        requires room { length self.old.tics + length others.now ≤ most_kept }
+        ensures ok { OnOk result (self.new.tics ≡ replaced self.old.tics place place others.now) }
+        ensures err { OnErr result (self.new.tics ≡ self.old.tics) }
+    {
+        self.open(place);
+        if place <= self.front.len() {
+            return pieces::insert(&mut self.front, place, others);
+        }
+        blocks::insert(&mut self.blocks, place - self.front.len(), others)?;
+        self.behind += others.len();
+        Ok(())
+    }
+
+    /// Removes the tics from one place to another.
+    pub fn erase(&mut self, from: usize, to: usize)
+        requires order { from ≤ to }
+        requires inside { to ≤ length self.old.tics }
+        ensures erased { self.new.tics ≡ replaced self.old.tics from to [] }
+    {
+        self.open(from);
+        let front = self.front.len();
+        let (start, end) = (from.max(front), to.max(front));
+        blocks::erase(&mut self.blocks, start - front, end - front);
+        self.behind -= end - start;
+        pieces::erase(&mut self.front, from.min(front), to.min(front));
+    }
+
+    /// Where many tics of the front stand behind a place, makes a block of them, if there is memory.
+    fn open(&mut self, place: usize)
+        ensures same { self.new.tics ≡ self.old.tics }
+    {
+        if self.front.len() > place && self.front.len() - place > LONG_BLOCK {
+            let _ = self.split(place);
+        }
+    }
+
+    /// Makes a block of the tics of the front from a place on. Without memory nothing changes.
+    fn split(&mut self, place: usize) -> Result<(), Memory>
+        requires inside { place ≤ self.old.front }
+        ensures same { self.new.tics ≡ self.old.tics }
+    {
+        let tail = Vec::from_slice(*self.front.allocator(), &self.front[place..])?;
+        let moved = tail.len();
+        self.blocks.insert(0, tail)?;
+        self.front.truncate(place);
+        self.behind += moved;
+        Ok(())
+    }
+
+    /// Brings all tics before a place into the front, and no more than a block beyond. Without memory the tics stay.
+    pub fn gather(&mut self, place: usize) -> Result<(), Memory>
+        requires inside { place ≤ length self.old.tics }
+        ensures same { self.new.tics ≡ self.old.tics }
+        ensures there { OnOk result (place ≤ self.new.front) }
+    {
+        'gathering: while self.front.len() < place {
+            let wanted = place - self.front.len();
+            self.join_first(wanted.max(LONG_BLOCK))?;
+        }
+        Ok(())
+    }
+
+    /// Brings the first block into the front, or no more than so many tics of it if there is memory.
+    fn join_first(&mut self, most: usize) -> Result<(), Memory>
+        requires behind { self.old.front < length self.old.tics }
+        ensures same { self.new.tics ≡ self.old.tics }
+        ensures more { OnOk result (self.old.front < self.new.front) }
+    {
+        blocks::shorten_first(&mut self.blocks, most);
+        let first = blocks::first(&self.blocks);
+        let moved = first.len();
+        self.front.extend_from_slice(first)?;
+        blocks::erase(&mut self.blocks, 0, moved);
+        self.behind -= moved;
+        Ok(())
+    }
+
+    /// The tics of the front.
+    pub fn front(&self) -> &[Tic]
+        ensures front { result.now ≡ take self.now.front self.now.tics }
+        ensures len { length result.now ≡ self.now.front }
+    {
+        &self.front
+    }
+
+    /// All tics, in order, as the vector that holds them.
+    pub fn into_tics(self) -> Result<Vec<Tic>, Memory>
+        ensures tics { IfOk result (λ tics. tics.items ≡ self.tics) }
+    {
+        let mut list = self;
+        list.gather(list.len())?;
+        let TicList {
+            front,
+            blocks: _,
+            behind: _,
+        } = list;
+        Ok(front)
+    }
 }

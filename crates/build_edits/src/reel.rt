@@ -1,10 +1,10 @@
-ghost use Rattle.std.specs.Prelude.{◌≡◌, ◌≤◌, ◌↔◌, [], length, IsTrue, IfOk};
+ghost use Rattle.std.specs.Prelude.{◌≡◌, ◌+◌, ◌≤◌, ◌++◌, ◌↔◌, [], length, drop, slice_get, IsTrue, IfOk, OnOk, OnErr, Err};
 ghost use Rattle.lmp_codec.specs.Demo.{most_tics};
 ghost use Rattle.build_edits.specs.Parts.{all_tics};
 ghost use Rattle.build_edits.specs.Edits.{Edits, MayEdit, seek_outcome, put_outcome, insert_outcome, delete_outcome, cut_outcome, repeat_outcome, accept_outcome};
 
 use crate::fault::EditFault;
-use crate::list::{accept_at, insert_at, move_gap, repeat_at};
+use crate::list::TicList;
 use doom_edge::Memory;
 use lmp_codec::{MOST_TICS, Tic};
 use std::marker::Model;
@@ -12,24 +12,23 @@ use std::marker::Model;
 /// The tics of a demo that is built, and a cursor: seen as the tics before the cursor and those from it on.
 ///
 /// It has at most as many tics as a demo may have. Each edit does what its command says, or is refused and
-/// changes nothing. The tics are kept in one list with a gap at the cursor, so an edit costs the tics that it
-/// puts or takes, and a move of the cursor its distance.
-#[derive(Debug, Drop)]
+/// changes nothing. A move of the cursor costs nothing, and an edit what it puts or takes and a block of tics,
+/// wherever the cursor stands.
+#[derive(Drop)]
 pub struct Tape {
-    kept: Vec<Tic>,
-    cursor: usize,
-    gap: usize,
+    pub(crate) tics: TicList,
+    pub(crate) cursor: usize,
 }
 
 impl Model for Tape {
-    ghost use Rattle.build_edits.specs.Parts.{Parts};
-    ghost use Rattle.build_edits.specs.Gaps.{gapped, IsGapped};
+    ghost use Rattle.build_edits.specs.Parts.{Parts, parts_at};
+    ghost use Rattle.build_edits.specs.Kept.{IsTape};
 
     ghost Value = { Parts };
 
-    ghost view = { λ t. gapped t.kept.items t.cursor t.gap };
+    ghost view = { λ t. parts_at t.tics.tics t.cursor };
 
-    ghost invariant = { λ t. IsGapped t.kept.items t.cursor t.gap };
+    ghost invariant = { λ t. IsTape t.tics t.cursor };
 }
 
 impl Tape {
@@ -39,18 +38,20 @@ impl Tape {
         ensures { result ≡ record { before = []; after = tics.items } }
     {
         Tape {
-            kept: tics,
+            tics: TicList::new(tics),
             cursor: 0,
-            gap: 0,
         }
     }
 
-    /// The tics before the cursor, in order.
-    pub fn before(&self) -> &[Tic]
-        ensures before { result.now ≡ self.now.before }
-        ensures within { length result.now ≤ most_tics }
+    /// The tic at a place, if there is one.
+    pub fn tic(&self, place: u32) -> Option<Tic>
+        ensures tic { result ≡ slice_get (all_tics self.now) place }
     {
-        &self.kept[..self.cursor]
+        let place = place as usize;
+        if place < self.len() {
+            return Some(self.tics.tic(place));
+        }
+        None
     }
 
     /// How many tics there are.
@@ -58,7 +59,7 @@ impl Tape {
         ensures len { result ≡ length (all_tics self.now) }
         ensures within { result ≤ most_tics }
     {
-        self.kept.len() - self.gap
+        self.tics.len()
     }
 
     /// Whether there is no tic.
@@ -73,15 +74,8 @@ impl Tape {
         ensures all { IfOk result (λ tics. tics.items ≡ all_tics self) }
         ensures within { IfOk result (λ tics. length tics.items ≤ most_tics) }
     {
-        let len = self.len();
-        let Tape {
-            mut kept,
-            cursor,
-            gap,
-        } = self;
-        move_gap(&mut kept, cursor, gap, len);
-        kept.truncate(len);
-        Ok(kept)
+        let Tape { tics, cursor: _ } = self;
+        tics.into_tics()
     }
 
     /// How many tics stand before the cursor.
@@ -101,8 +95,22 @@ impl Tape {
         if place > len {
             return Err(EditFault::Place(len as u32));
         }
-        move_gap(&mut self.kept, self.cursor, self.gap, place);
         self.cursor = place;
+        Ok(())
+    }
+
+    /// Puts these tics in place of so many from the cursor on, and moves the cursor behind them.
+    fn put_over(&mut self, gone: usize, tics: &[Tic]) -> Result<(), EditFault>
+        requires there { gone ≤ length self.old.after }
+        requires room { length (all_tics self.old) + length tics.now ≤ most_tics + gone }
+        ensures ok { OnOk result (self.new ≡ record { before = self.old.before ++ tics.now; after = drop gone self.old.after }) }
+        ensures err { OnErr result (self.new ≡ self.old) }
+        ensures memory { OnErr result (result ≡ Err EditFault.Memory) }
+    {
+        let behind = self.cursor + tics.len();
+        self.tics.insert(self.cursor, tics)?;
+        self.tics.erase(behind, behind + gone);
+        self.cursor = behind;
         Ok(())
     }
 
@@ -114,9 +122,7 @@ impl Tape {
         if self.cursor == self.len() {
             return self.insert(tic);
         }
-        self.kept[self.cursor] = tic;
-        self.cursor += 1;
-        Ok(())
+        self.put_over(1, &[tic])
     }
 
     /// Inserts the tic at the cursor, and moves the cursor behind it. Refused with `TooLong` where it would
@@ -127,9 +133,7 @@ impl Tape {
         if self.len() == MOST_TICS {
             return Err(EditFault::TooLong);
         }
-        self.gap = insert_at(&mut self.kept, self.cursor, self.gap, tic)?;
-        self.cursor += 1;
-        Ok(())
+        self.put_over(0, &[tic])
     }
 
     /// Removes the tic at the cursor. Refused with `Place` and the number of tics where the cursor is at the
@@ -141,7 +145,7 @@ impl Tape {
         if self.cursor == len {
             return Err(EditFault::Place(len as u32));
         }
-        self.gap += 1;
+        self.tics.erase(self.cursor, self.cursor + 1);
         Ok(())
     }
 
@@ -149,7 +153,8 @@ impl Tape {
     pub fn cut(&mut self) -> Result<(), EditFault>
         ensures edits { Edits result self.old self.new (cut_outcome self.old) }
     {
-        self.gap = self.kept.len() - self.cursor;
+        let len = self.len();
+        self.tics.erase(self.cursor, len);
         Ok(())
     }
 
@@ -158,17 +163,16 @@ impl Tape {
     pub fn repeat(&mut self, count: u32) -> Result<(), EditFault>
         ensures edits { MayEdit result self.old self.new (repeat_outcome count self.old) }
     {
-        let count = count as usize;
-        if self.cursor == 0 {
+        let (place, count) = (self.cursor, count as usize);
+        if place == 0 {
             return Err(EditFault::Before);
         }
-        if count > MOST_TICS - self.cursor {
+        if count > MOST_TICS - place {
             return Err(EditFault::TooLong);
         }
-        repeat_at(&mut self.kept, self.cursor, count)?;
-        self.cursor += count;
-        self.gap = self.gap.min(self.kept.len() - self.cursor);
-        Ok(())
+        let copies = self.tics.copies(place - 1, count)?;
+        let over = count.min(self.len() - place);
+        self.put_over(over, &copies)
     }
 
     /// Puts these tics in place of all tics from the cursor on, and moves the cursor to the end. Refused with
@@ -179,9 +183,6 @@ impl Tape {
         if tics.len() > MOST_TICS - self.cursor {
             return Err(EditFault::TooLong);
         }
-        accept_at(&mut self.kept, self.cursor, tics)?;
-        self.cursor += tics.len();
-        self.gap = 0;
-        Ok(())
+        self.put_over(self.len() - self.cursor, tics)
     }
 }

@@ -1,7 +1,7 @@
 use crate::rows::{at, behind, expect, numbers};
 use build_edits::{EditFault, Tape};
 use lmp_codec::{MOST_TICS, Tic};
-use std::alloc::{AllocError, Global};
+use std::alloc::Global;
 use std::test::Fail;
 
 #[derive(Clone, Copy)]
@@ -86,24 +86,15 @@ fn answer_of(row: &[i64]) -> Result<(), EditFault> {
     }
 }
 
-/// How far ahead each of these tics moves.
-fn moves(alloc: Global, tics: &[Tic]) -> Result<Vec<i64>, AllocError> {
-    let mut moves = Vec::new(alloc);
-    for tic in tics {
-        moves.push(i64::from(tic.forward))?;
-    }
-    Ok(moves)
-}
-
-/// The cursor, and how far ahead each tic of the tape moves; the cursor is moved to the end and back.
-fn held(alloc: Global, tape: &mut Tape) -> Result<Vec<i64>, Fail> {
-    let cursor = tape.cursor();
+/// The cursor, and how far ahead each tic of the tape moves.
+fn held(alloc: Global, tape: &Tape) -> Result<Vec<i64>, Fail> {
     let mut held = Vec::new(alloc);
-    held.push(i64::from(cursor))?;
-    tape.seek(u32::try_from(tape.len())?)?;
-    let moves = moves(alloc, tape.before())?;
-    held.extend_from_slice(&moves)?;
-    tape.seek(cursor)?;
+    held.push(i64::from(tape.cursor()))?;
+    for place in 0..u32::try_from(tape.len())? {
+        if let Some(tic) = tape.tic(place) {
+            held.push(i64::from(tic.forward))?;
+        }
+    }
     Ok(held)
 }
 
@@ -114,10 +105,21 @@ fn each_edit_does_what_its_command_says(rt: HostRuntime) -> Result<(), Fail> {
         let row = numbers(rt.alloc(), line)?;
         let answer = carry_out(&mut tape, edit_of(line, &row));
         assert_eq!(rt; answer, answer_of(&row));
-        let held = held(rt.alloc(), &mut tape)?;
+        let held = held(rt.alloc(), &tape)?;
         expect(&rt, line, &held, behind(&row, 4));
     }
     Ok(())
+}
+
+/// How many of the first tics move ahead.
+fn ahead_among(tape: &Tape, tics: u32) -> u32 {
+    let mut found = 0u32;
+    for place in 0..tics {
+        if tape.tic(place).is_some_and(|tic| tic.forward > 0) {
+            found = found.wrapping_add(1);
+        }
+    }
+    found
 }
 
 #[test]
@@ -137,8 +139,7 @@ fn a_full_tape_takes_no_more(rt: HostRuntime) -> Result<(), Fail> {
         assert_eq!(rt; tape.cursor(), place);
         assert_eq!(rt; tape.len(), MOST_TICS);
     }
-    assert_eq!(rt; tape.seek(1_000_000), Ok(()));
-    assert!(rt; tape.before().iter().all(|tic| tic.forward == 0));
+    assert_eq!(rt; ahead_among(&tape, 1_000_000), 0);
     assert_eq!(rt; tape.seek(999_999), Ok(()));
     for _ in 0..100_000 {
         assert_eq!(rt; tape.delete(), Ok(()));
@@ -147,5 +148,19 @@ fn a_full_tape_takes_no_more(rt: HostRuntime) -> Result<(), Fail> {
     }
     assert_eq!(rt; tape.repeat(1), Ok(()));
     assert_eq!(rt; tape.len(), MOST_TICS);
+    Ok(())
+}
+
+#[test]
+fn a_long_tape_is_edited_at_any_place(rt: HostRuntime) -> Result<(), Fail> {
+    let mut tape = Tape::new(vec![in rt.alloc(); ahead(0); 100_000]?);
+    for edit in 0..20_000u32 {
+        // No place comes twice, since 7,919 is a prime.
+        assert_eq!(rt; tape.seek(edit.wrapping_mul(7_919) % 100_000), Ok(()));
+        assert_eq!(rt; tape.delete(), Ok(()));
+        assert_eq!(rt; tape.insert(ahead(1)), Ok(()));
+    }
+    assert_eq!(rt; tape.len(), 100_000);
+    assert_eq!(rt; ahead_among(&tape, 100_000), 20_000);
     Ok(())
 }
