@@ -23,14 +23,14 @@ pub record Keeps (old new : Parts) : Type 0 where
   pub is : all_tics new ≡ old.before ++ rest
 
 -- what is done was not refused
-done_is : (test : Bool) (fault : EditFault) (edited new : Parts)
+pub done_is : (test : Bool) (fault : EditFault) (edited new : Parts)
     → (if test then Err fault else Ok edited) ≡ Ok new
     → edited ≡ new
 done_is true fault edited new is = absurd cc
 done_is false fault edited new is = cc
 
 -- the same of two tests
-done_after : (first second : Bool) (fault other : EditFault) (edited new : Parts)
+pub done_after : (first second : Bool) (fault other : EditFault) (edited new : Parts)
     → (if first then Err fault else if second then Err other else Ok edited) ≡ Ok new
     → edited ≡ new
 done_after true second fault other edited new is = absurd cc

@@ -1,5 +1,5 @@
 -- An edit adds no tic but the command's: what each tic of a tape has, and the command's, each tic of the edited tape has.
-use Rattle.std.proofs.Common.{◌≡◌, ℕ, ◌-◌, Bool, true, false, if◌then◌else◌, List, [], ◌∷◌, ◌++◌, length, refl, sym, subst, Option, Some, None, slice_get, Ok, Err}
+use Rattle.std.proofs.Common.{◌≡◌, ℕ, ◌-◌, false, List, [], ◌∷◌, ◌++◌, length, refl, sym, subst, Option, Some, None, slice_get, Ok}
 use Rattle.std.specs.Prelude.{All}
 use Rattle.std.proofs.Math.Seq.{take-append_seam, drop-append_seam}
 use Rattle.std.proofs.lemmas.List.Elements.{All-append, All-nil, All-take, All-drop, All-replicate, All-get_or}
@@ -8,17 +8,8 @@ use Rattle.std.proofs.lemmas.List.{take-append-drop}
 use Rattle.lmp_codec.specs.declared.input.Tic.{Tic}
 use Rattle.build_edits.specs.Parts.{Parts, all_tics, parts_at}
 use Rattle.build_edits.specs.Edits.{seek_outcome, put_outcome, insert_outcome, delete_outcome, cut_outcome, repeat_outcome, copies, last_of}
-use Rattle.build_edits.specs.declared.fault.EditFault.{EditFault}
 use Rattle.build_edits.specs.declared.fault.EditFault.TheVariants.{Before, TooLong}
-
--- what is done was not refused
-done_is : (test : Bool) (fault : EditFault) (edited new : Parts) → (if test then Err fault else Ok edited) ≡ Ok new → edited ≡ new
-done_is true fault edited new is = absurd cc
-done_is false fault edited new is = cc
-
-done_after : (first second : Bool) (fault other : EditFault) (edited new : Parts) → (if first then Err fault else if second then Err other else Ok edited) ≡ Ok new → edited ≡ new
-done_after true second fault other edited new is = absurd cc
-done_after false second fault other edited new is = done_is second other edited new is
+use Rattle.build_edits.proofs.Builds.{done_is, done_after}
 
 module _ (P : Tic → Type 0) where
   -- both parts of a tape hold what all of it does

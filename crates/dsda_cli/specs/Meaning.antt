@@ -215,7 +215,8 @@ abbrev pub cost_of : Result Run (ℕ × EditFault) → Cost
 cost_of (Ok run) = run.spent.cost
 cost_of (Err refused) = free
 
--- the script carried out on the demo's tics, in the game that is played so: by plain replays, and at what it costs
+-- The script carried out on the demo's tics, in the game that is played so: by plain replays, and at what it costs
+-- where no world is kept but the one at tic 0.
 abbrev pub carried_in : Play Setup Gridded → Setup → List Tic → List Entry → Result Work InputFault
 carried_in play game tics entries =
     ended_as game.header (all_carried play game entries (fresh tics)) (cost_of (all_run play game entries (unspent (fresh tics) 0)))
