@@ -1,5 +1,6 @@
 -- The tics of blocks that are joined: at a block, and after an edit of one.
 use Rattle.std.proofs.Common.{ℕ, ◌+◌, ◌<◌, ◌≤◌, ◌≡◌, ◌++◌, List, [], ◌∷◌, length, take, drop, set, get_or, suc, arith, ap, sym, ◌∙◌, append_assoc, append-nil, inl, inr}
+use Rattle.std.specs.List.{splice}
 use Rattle.std.proofs.lemmas.Bool.{cases_lt}
 use Rattle.std.specs.Prelude.{Vec, vec_items, insert, remove, slice_get, Some}
 use Rattle.std.proofs.lemmas.List.{take-append-drop, take_more, drop_more, drop_all, set_split, length-append, drop_at, take-append-le, length-take-le, take-take, get_or_read, nil_from_length}
@@ -7,8 +8,8 @@ use Rattle.std.proofs.lemmas.List.Edits.{length-insert, get_or-insert_below}
 use Rattle.std.proofs.lemmas.List.Concat.{flat_map-append, get_or-flat_map}
 use Rattle.std.proofs.lemmas.Option.{slice_get-get_or}
 use Rattle.lmp_codec.specs.declared.input.Tic.{Tic}
-use Rattle.build_edits.specs.Kept.{joined, replaced, IsSpot}
-use Rattle.build_edits.proofs.Replaced.{inside, whole_gone}
+use Rattle.build_edits.specs.Kept.{joined, IsSpot}
+use Rattle.build_edits.proofs.Splices.{inside, whole_gone}
 
 module _ {Z : Type 0} where
   -- a block that is read twice
@@ -82,8 +83,8 @@ module _ {Z : Type 0} where
       → to ≤ length (vec_items these)
       → start ≡ length (joined (take block blocks)) + from
       → end ≡ length (joined (take block blocks)) + to
-      → vec_items other ≡ replaced (vec_items these) from to others
-      → joined (set blocks block other) ≡ replaced (joined blocks) start end others
+      → vec_items other ≡ splice (vec_items these) from to others
+      → joined (set blocks block other) ≡ splice (joined blocks) start end others
   edited blocks block these other others from to start end there read low high starts ends is =
       let front : List Tic = joined (take block blocks) in
       let back : List Tic = joined (drop (block + 1) blocks) in
@@ -92,9 +93,9 @@ module _ {Z : Type 0} where
       around_other blocks block other there
       ∙ ap (λ (x : List Tic). front ++ (x ++ back)) is
       ∙ sym (inside front (vec_items these) back others from to low high)
-      ∙ ap (λ (x : List Tic). replaced x (length front + from) (length front + to) others) (sym all)
-      ∙ ap (λ (n : ℕ). replaced (joined blocks) n (length front + to) others) (sym starts)
-      ∙ ap (λ (n : ℕ). replaced (joined blocks) start n others) (sym ends)
+      ∙ ap (λ (x : List Tic). splice x (length front + from) (length front + to) others) (sym all)
+      ∙ ap (λ (n : ℕ). splice (joined blocks) n (length front + to) others) (sym starts)
+      ∙ ap (λ (n : ℕ). splice (joined blocks) start n others) (sym ends)
 
   -- a block that was cut in two
   pub cut_in_two : (blocks more : List (Vec Tic Z)) (block most : ℕ) (whole again front tail : Vec Tic Z)
@@ -158,7 +159,7 @@ module _ {Z : Type 0} where
       → these ≡ get_or blocks block these
       → start ≡ length (joined (take block blocks))
       → len ≡ length (vec_items these)
-      → joined (remove blocks block) ≡ replaced (joined blocks) start (start + len) []
+      → joined (remove blocks block) ≡ splice (joined blocks) start (start + len) []
   removed blocks block these start len there read starts long =
       let before : List Tic = joined (take block blocks) in
       let back : List Tic = joined (drop (block + 1) blocks) in
@@ -168,7 +169,7 @@ module _ {Z : Type 0} where
       flat_map-append vec_items (take block blocks) (drop (suc block) blocks)
       ∙ ap (λ (n : ℕ). before ++ joined (drop n blocks)) next
       ∙ sym (whole_gone before (vec_items these) back start len starts long)
-      ∙ ap (λ (x : List Tic). replaced x start (start + len) []) (sym all)
+      ∙ ap (λ (x : List Tic). splice x start (start + len) []) (sym all)
 
   -- the first block that has a tic stands at the start
   pub first_of : (blocks : List (Vec Tic Z)) (block inside : ℕ) (these : Vec Tic Z)

@@ -1,4 +1,4 @@
-pub mod Replaced
+pub mod Splices
 pub mod Joined
 pub mod Builds
 pub mod Held

@@ -1,5 +1,6 @@
 -- What edits of the list of a tape come to at its cursor.
 use Rattle.std.proofs.Common.{ℕ, ◌+◌, ◌-◌, ◌<◌, ◌≤◌, ◌≡◌, ◌++◌, List, [], ◌∷◌, length, take, drop, min, Bool, true, false, cond, arith, ap, sym, ◌∙◌, append_assoc, Some, Result, Ok, Err, slice_get, nat_eq, nat_lt}
+use Rattle.std.specs.List.{splice}
 use Rattle.std.specs.Prelude.{OnOk, OnErr}
 use Rattle.std.proofs.Math.Seq.{drop-append-add}
 use Rattle.std.proofs.lemmas.List.{take-append-drop, take_at, drop_at, drop-drop, drop_min, length-append, length-drop, length-take-le, get_or-take}
@@ -8,7 +9,6 @@ use Rattle.std.proofs.lemmas.Option.{slice_get-get_or}
 use Rattle.lmp_codec.specs.Demo.{most_tics}
 use Rattle.lmp_codec.specs.declared.input.Tic.{Tic}
 use Rattle.build_edits.specs.Parts.{Parts, all_tics, parts_at}
-use Rattle.build_edits.specs.Kept.{replaced}
 use Rattle.build_edits.specs.Edits.{MayEdit, delete_outcome, repeat_outcome, copies, last_of}
 use Rattle.build_edits.specs.declared.fault.EditFault.{EditFault}
 use Rattle.build_edits.specs.declared.fault.EditFault.TheVariants.{Place, Before, TooLong, Memory}
@@ -26,8 +26,8 @@ all_at tics place now is = ap (λ (p : Parts). length (all_tics p)) (sym is) ∙
 pub put_over_is : (tics middle new others : List Tic) (cursor gone end : ℕ)
     → cursor ≤ length tics
     → end ≡ cursor + length others
-    → middle ≡ replaced tics cursor cursor others
-    → new ≡ replaced middle end (end + gone) []
+    → middle ≡ splice tics cursor cursor others
+    → new ≡ splice middle end (end + gone) []
     → parts_at new end ≡ record { before = take cursor tics ++ others; after = drop gone (drop cursor tics) }
 put_over_is tics middle new others cursor gone end inside ends put taken =
     let front : List Tic = take cursor tics ++ others in
@@ -58,7 +58,7 @@ some_there n some = false_from_ne_true _ (λ yes. let h = eqb-true n 0 yes in ab
 -- the tic at the cursor is gone
 pub delete_is : (tics new : List Tic) (cursor : ℕ)
     → cursor < length tics
-    → new ≡ replaced tics cursor (cursor + 1) []
+    → new ≡ splice tics cursor (cursor + 1) []
     → delete_outcome (parts_at tics cursor) ≡ Ok (parts_at new cursor)
 delete_is tics new cursor inside is =
     let some : 0 < length (drop cursor tics) = omega (arith, length-drop cursor tics) in

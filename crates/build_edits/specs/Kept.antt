@@ -1,5 +1,5 @@
 -- How the tics of a tape are kept: a front in one piece, and blocks of tics behind it.
-use Rattle.std.specs.Prelude.{ℕ, ◌+◌, ◌*◌, ◌<◌, ◌≤◌, ◌≡◌, ◌++◌, List, length, take, drop, flat_map, slice_index_or, Vec, vec_items}
+use Rattle.std.specs.Prelude.{ℕ, ◌+◌, ◌*◌, ◌<◌, ◌≤◌, ◌≡◌, List, length, take, flat_map, slice_index_or, Vec, vec_items}
 use Rattle.lmp_codec.specs.Demo.{most_tics}
 use Rattle.lmp_codec.specs.declared.input.Tic.{Tic}
 
@@ -12,10 +12,6 @@ pub record Kept : Type 0 where
 abbrev pub joined : {Z : Type 0} → List (Vec Tic Z) → List Tic
 joined blocks = flat_map vec_items blocks
 
--- the list with other tics in place of those from one place to another
-abbrev pub replaced : List Tic → ℕ → ℕ → List Tic → List Tic
-replaced tics from to others = take from tics ++ (others ++ drop to tics)
-
 -- what an edit may keep on its way: as many tics as a demo may have, and as many that come in their place
 abbrev pub most_kept : ℕ
 most_kept = 2 * most_tics
@@ -26,7 +22,7 @@ pub record IsSpot {Z : Type 0} (blocks : List (Vec Tic Z)) (place block inside :
   pub sum : place ≡ length (joined (take block blocks)) + inside
   pub within : (none : Vec Tic Z) → inside < length (vec_items (slice_index_or blocks block none))
 
--- a tape stands on so many tics, and its cursor among them
+-- a tape has no more tics than a demo may have, and its cursor stands among them
 pub record IsTape (kept : Kept) (cursor : ℕ) : Type 0 where
   pub inside : cursor ≤ length kept.tics
   pub few : length kept.tics ≤ most_tics

@@ -1,7 +1,8 @@
 //! Edits of tics that stand in blocks, one behind the other. So that an edit moves few tics, a block that has grown
 //! long is halved where an edit finds it.
 ghost use Rattle.std.specs.Prelude.{◌≡◌, ◌+◌, ◌<◌, ◌≤◌, [], length, take, slice_get, Some, OnOk, OnErr};
-ghost use Rattle.build_edits.specs.Kept.{joined, replaced, IsSpot};
+ghost use Rattle.std.specs.List.{splice};
+ghost use Rattle.build_edits.specs.Kept.{joined, IsSpot};
 
 use crate::pieces;
 use doom_edge::Memory;
@@ -73,7 +74,7 @@ pub fn tic_at(blocks: &Vec<Vec<Tic>>, place: usize) -> Tic
 pub fn insert(blocks: &mut Vec<Vec<Tic>>, place: usize, others: &[Tic]) -> Result<(), Memory>
     requires some { 0 < place }
     requires inside { place ≤ length (joined blocks.old.items) }
-    ensures ok { OnOk result (joined blocks.new.items ≡ replaced (joined blocks.old.items) place place others.now) }
+    ensures ok { OnOk result (joined blocks.new.items ≡ splice (joined blocks.old.items) place place others.now) }
     ensures err { OnErr result (joined blocks.new.items ≡ joined blocks.old.items) }
 {
     let before = near(blocks, place - 1);
@@ -86,7 +87,7 @@ pub fn insert(blocks: &mut Vec<Vec<Tic>>, place: usize, others: &[Tic]) -> Resul
 fn erase_some(blocks: &mut Vec<Vec<Tic>>, place: usize, most: usize) -> usize
     requires some { 0 < most }
     requires there { place < length (joined blocks.old.items) }
-    ensures erased { joined blocks.new.items ≡ replaced (joined blocks.old.items) place (place + result) [] }
+    ensures erased { joined blocks.new.items ≡ splice (joined blocks.old.items) place (place + result) [] }
     ensures some { 0 < result }
     ensures most { result ≤ most }
 {
@@ -103,7 +104,7 @@ fn erase_some(blocks: &mut Vec<Vec<Tic>>, place: usize, most: usize) -> usize
 fn erase_inside(blocks: &mut Vec<Vec<Tic>>, place: usize, most: usize) -> usize
     requires some { 0 < most }
     requires there { place < length (joined blocks.old.items) }
-    ensures erased { joined blocks.new.items ≡ replaced (joined blocks.old.items) place (place + result) [] }
+    ensures erased { joined blocks.new.items ≡ splice (joined blocks.old.items) place (place + result) [] }
     ensures some { 0 < result }
     ensures most { result ≤ most }
 {
@@ -117,7 +118,7 @@ fn erase_inside(blocks: &mut Vec<Vec<Tic>>, place: usize, most: usize) -> usize
 pub fn erase(blocks: &mut Vec<Vec<Tic>>, from: usize, to: usize)
     requires order { from ≤ to }
     requires inside { to ≤ length (joined blocks.old.items) }
-    ensures erased { joined blocks.new.items ≡ replaced (joined blocks.old.items) from to [] }
+    ensures erased { joined blocks.new.items ≡ splice (joined blocks.old.items) from to [] }
 {
     let mut left = to - from;
     'erasing: while left > 0 {

@@ -1,6 +1,7 @@
 ghost use Rattle.std.specs.Prelude.{◌≡◌, ◌+◌, ◌<◌, ◌≤◌, [], length, take, slice_get, Some, IfOk, OnOk, OnErr};
+ghost use Rattle.std.specs.List.{splice};
 ghost use Rattle.build_edits.specs.Edits.{copies};
-ghost use Rattle.build_edits.specs.Kept.{replaced, most_kept};
+ghost use Rattle.build_edits.specs.Kept.{most_kept};
 
 use crate::blocks::LONG_BLOCK;
 use crate::{blocks, pieces};
@@ -17,6 +18,7 @@ use std::marker::Model;
 pub struct TicList {
     front: Vec<Tic>,
     blocks: Vec<Vec<Tic>>,
+    // How many tics stand in the blocks.
     behind: usize,
 }
 
@@ -77,7 +79,7 @@ impl TicList {
     pub fn insert(&mut self, place: usize, others: &[Tic]) -> Result<(), Memory>
         requires inside { place ≤ length self.old.tics }
         requires room { length self.old.tics + length others.now ≤ most_kept }
-        ensures ok { OnOk result (self.new.tics ≡ replaced self.old.tics place place others.now) }
+        ensures ok { OnOk result (self.new.tics ≡ splice self.old.tics place place others.now) }
         ensures err { OnErr result (self.new.tics ≡ self.old.tics) }
     {
         self.open(place);
@@ -93,7 +95,7 @@ impl TicList {
     pub fn erase(&mut self, from: usize, to: usize)
         requires order { from ≤ to }
         requires inside { to ≤ length self.old.tics }
-        ensures erased { self.new.tics ≡ replaced self.old.tics from to [] }
+        ensures erased { self.new.tics ≡ splice self.old.tics from to [] }
     {
         self.open(from);
         let front = self.front.len();

@@ -1,6 +1,6 @@
 //! Edits of tics that stand in one piece.
 ghost use Rattle.std.specs.Prelude.{◌≡◌, ◌≤◌, [], length, OnOk, OnErr};
-ghost use Rattle.build_edits.specs.Kept.{replaced};
+ghost use Rattle.std.specs.List.{splice};
 
 use doom_edge::Memory;
 use lmp_codec::Tic;
@@ -8,7 +8,7 @@ use lmp_codec::Tic;
 /// Puts these tics in front of the one at a place.
 pub fn insert(tics: &mut Vec<Tic>, place: usize, others: &[Tic]) -> Result<(), Memory>
     requires inside { place ≤ length tics.old.items }
-    ensures ok { OnOk result (tics.new.items ≡ replaced tics.old.items place place others.now) }
+    ensures ok { OnOk result (tics.new.items ≡ splice tics.old.items place place others.now) }
     ensures err { OnErr result (tics.new.items ≡ tics.old.items) }
 {
     let len = tics.len();
@@ -22,7 +22,7 @@ pub fn insert(tics: &mut Vec<Tic>, place: usize, others: &[Tic]) -> Result<(), M
 pub fn erase(tics: &mut Vec<Tic>, from: usize, to: usize)
     requires order { from ≤ to }
     requires inside { to ≤ length tics.old.items }
-    ensures erased { tics.new.items ≡ replaced tics.old.items from to [] }
+    ensures erased { tics.new.items ≡ splice tics.old.items from to [] }
 {
     tics.copy_within(to.., from);
     tics.truncate(tics.len() - (to - from));

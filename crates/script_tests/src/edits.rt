@@ -155,7 +155,7 @@ fn a_full_tape_takes_no_more(rt: HostRuntime) -> Result<(), Fail> {
 fn a_long_tape_is_edited_at_any_place(rt: HostRuntime) -> Result<(), Fail> {
     let mut tape = Tape::new(vec![in rt.alloc(); ahead(0); 100_000]?);
     for edit in 0..20_000u32 {
-        // No place comes twice, since 7,919 is a prime.
+        // No place comes twice, since no factor of 7,919 is one of 100,000.
         assert_eq!(rt; tape.seek(edit.wrapping_mul(7_919) % 100_000), Ok(()));
         assert_eq!(rt; tape.delete(), Ok(()));
         assert_eq!(rt; tape.insert(ahead(1)), Ok(()));

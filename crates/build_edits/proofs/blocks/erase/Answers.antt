@@ -1,6 +1,6 @@
 use Rattle.std.proofs.Common.{◌∙◌}
 use Rattle.build_edits.specs.Kept.{joined}
-use Rattle.build_edits.proofs.Replaced.{less_to_go, length_less}
+use Rattle.build_edits.proofs.Splices.{less_to_go, length_less}
 use Rattle.build_edits.proofs.blocks.erase.Goals as goal
 
 pub erasing-preserved : goal.erasing-preserved

@@ -1,6 +1,7 @@
 use Rattle.std.proofs.Common.{rules, ◌≡◌, ◌+◌, ◌<◌, ℕ, ap, ◌∙◌, arith, length, take}
+use Rattle.std.specs.List.{splice}
 use Rattle.std.specs.Prelude.{[]}
-use Rattle.build_edits.specs.Kept.{joined, replaced}
+use Rattle.build_edits.specs.Kept.{joined}
 use Rattle.build_edits.proofs.Joined.{edited, read_again}
 use Rattle.build_edits.proofs.blocks.erase_inside.Goals as goal
 
@@ -18,4 +19,4 @@ returns-clause-erased c =
     let end : c.args.place + gone ≡ length (joined (take block blocks)) + (from + gone) = omega (arith, spot.sum) in
     edited blocks block these c.erase.new.tics [] from (from + gone) c.args.place (c.args.place + gone)
     spot.there (search rules) (omega arith) (omega (arith, len)) spot.sum end c.erase.ensures.erased
-    ∙ ap (λ tics. replaced tics c.args.place (c.args.place + gone) []) c.near-from.ensures.same
+    ∙ ap (λ tics. splice tics c.args.place (c.args.place + gone) []) c.near-from.ensures.same

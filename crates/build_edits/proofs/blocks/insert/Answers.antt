@@ -1,5 +1,6 @@
 use Rattle.std.proofs.Common.{rules, ◌≡◌, ◌+◌, ◌<◌, ℕ, ap, ◌∙◌, arith, length, take, slice_set}
-use Rattle.build_edits.specs.Kept.{joined, replaced}
+use Rattle.std.specs.List.{splice}
+use Rattle.build_edits.specs.Kept.{joined}
 use Rattle.build_edits.proofs.Joined.{edited, same_tics}
 use Rattle.build_edits.proofs.blocks.insert.Goals as goal
 
@@ -14,7 +15,7 @@ returns-clause-ok c =
     let start : c.args.place ≡ length (joined (take block blocks)) + from = omega (arith, spot.sum) in
     edited blocks block these c.insert.new.tics c.args.others.now from from c.args.place c.args.place
     spot.there (search rules) (omega arith) (omega arith) start start (search rules)
-    ∙ ap (λ tics. replaced tics c.args.place c.args.place c.args.others.now) c.near-before.ensures.same
+    ∙ ap (λ tics. splice tics c.args.place c.args.place c.args.others.now) c.near-before.ensures.same
 
 pub returns-in_err-insert-clause-err : goal.returns-in_err-insert-clause-err
 returns-in_err-insert-clause-err c =

@@ -1,8 +1,9 @@
 use Rattle.std.proofs.Common.{rules, ◌≡◌, ◌++◌, ◌-◌, List, ℕ, ap, ◌∙◌, arith, length, min, max}
+use Rattle.std.specs.List.{splice}
 use Rattle.std.specs.Prelude.{[]}
 use Rattle.lmp_codec.specs.declared.input.Tic.{Tic}
-use Rattle.build_edits.specs.Kept.{joined, replaced}
-use Rattle.build_edits.proofs.Replaced.{both_parts}
+use Rattle.build_edits.specs.Kept.{joined}
+use Rattle.build_edits.proofs.Splices.{both_parts}
 use Rattle.build_edits.proofs.list.TicList.erase.Goals as goal
 
 pub returns : goal.returns
@@ -17,18 +18,18 @@ returns c =
     let low : c.min.result ≡ min from (length front) = omega (arith, len, c.min.ensures) in
     let high : c.min-2.result ≡ min to (length front) = omega (arith, len, c.min-2.ensures) in
     let old : front ++ back ≡ c.args.self.now.tics = ap (λ k. k.tics) c.self.view_is ∙ c.open.ensures.same in
-    let behind : joined c.erase.new.blocks.items ≡ replaced back (max from (length front) - length front) (max to (length front) - length front) [] =
+    let behind : joined c.erase.new.blocks.items ≡ splice back (max from (length front) - length front) (max to (length front) - length front) [] =
     c.erase.ensures.erased
-    ∙ ap (λ (n : ℕ). replaced back n (c.max-end.result - c.len-front.result) []) start
-    ∙ ap (λ (n : ℕ). replaced back (max from (length front) - length front) n []) end in
-    let before : c.erase-2.new.tics.items ≡ replaced front (min from (length front)) (min to (length front)) [] =
+    ∙ ap (λ (n : ℕ). splice back n (c.max-end.result - c.len-front.result) []) start
+    ∙ ap (λ (n : ℕ). splice back (max from (length front) - length front) n []) end in
+    let before : c.erase-2.new.tics.items ≡ splice front (min from (length front)) (min to (length front)) [] =
     c.erase-2.ensures.erased
-    ∙ ap (λ (n : ℕ). replaced front n c.min-2.result []) low
-    ∙ ap (λ (n : ℕ). replaced front (min from (length front)) n []) high in
+    ∙ ap (λ (n : ℕ). splice front n c.min-2.result []) low
+    ∙ ap (λ (n : ℕ). splice front (min from (length front)) n []) high in
     record {
       erased =
           ap (λ (x : List Tic). x ++ joined c.erase.new.blocks.items) before
-          ∙ ap (λ (x : List Tic). replaced front (min from (length front)) (min to (length front)) [] ++ x) behind
+          ∙ ap (λ (x : List Tic). splice front (min from (length front)) (min to (length front)) [] ++ x) behind
           ∙ both_parts front back from to c.requires.order
-          ∙ ap (λ (x : List Tic). replaced x from to []) old;
+          ∙ ap (λ (x : List Tic). splice x from to []) old;
     }

@@ -2,7 +2,7 @@ use Rattle.std.proofs.Common.{rules, ◌≡◌, ◌++◌, ◌∷◌, List, take,
 use Rattle.std.proofs.lemmas.List.{take_rest}
 use Rattle.lmp_codec.specs.declared.input.Tic.{Tic}
 use Rattle.build_edits.specs.Kept.{joined}
-use Rattle.build_edits.proofs.Replaced.{cut_front}
+use Rattle.build_edits.proofs.Splices.{cut_front}
 use Rattle.build_edits.proofs.list.TicList.split.Goals as goal
 
 -- src/list.rt:121:5

@@ -1,16 +1,16 @@
 -- What stands where other tics have taken the place of some of a list.
 use Rattle.std.proofs.Common.{ℕ, ◌+◌, ◌-◌, ◌≤◌, ◌≡◌, ◌++◌, List, [], length, take, drop, min, max, arith, ap, sym, ◌∙◌, append_assoc, append-nil, inl, inr}
+use Rattle.std.specs.List.{splice}
 use Rattle.std.proofs.Math.Seq.{take-append-add, drop-append-add}
 use Rattle.std.proofs.lemmas.Bool.{cases_lt}
 use Rattle.std.proofs.lemmas.List.{take-append-drop, take-append-le, drop-append-le, take_at, drop_all, drop-drop, length-append, length-drop, length-take-le}
 use Rattle.lmp_codec.specs.declared.input.Tic.{Tic}
-use Rattle.build_edits.specs.Kept.{replaced}
 
 -- an edit of a list that stands between two others
 pub inside : (front tics back others : List Tic) (from to : ℕ)
     → from ≤ length tics
     → to ≤ length tics
-    → replaced (front ++ (tics ++ back)) (length front + from) (length front + to) others ≡ front ++ (replaced tics from to others ++ back)
+    → splice (front ++ (tics ++ back)) (length front + from) (length front + to) others ≡ front ++ (splice tics from to others ++ back)
 inside front tics back others from to low high =
     let start : take (length front + from) (front ++ (tics ++ back)) ≡ front ++ take from tics =
     take-append-add front (tics ++ back) from ∙ ap (λ (x : List Tic). front ++ x) (take-append-le from tics back low) in
@@ -26,14 +26,14 @@ inside front tics back others from to low high =
 pub whole_gone : (front tics back : List Tic) (start len : ℕ)
     → start ≡ length front
     → len ≡ length tics
-    → replaced (front ++ (tics ++ back)) start (start + len) [] ≡ front ++ back
+    → splice (front ++ (tics ++ back)) start (start + len) [] ≡ front ++ back
 whole_gone front tics back start len starts long =
     let from : ℕ = length front + 0 in
     let at : start ≡ length front + 0 = omega (arith, starts) in
     let to : start + len ≡ length front + length tics = omega (arith, starts, long) in
     let none : drop (length tics) tics ≡ [] = drop_all (length tics) tics (omega arith) in
-    ap (λ (n : ℕ). replaced (front ++ (tics ++ back)) n (start + len) []) at
-    ∙ ap (λ (n : ℕ). replaced (front ++ (tics ++ back)) (length front + 0) n []) to
+    ap (λ (n : ℕ). splice (front ++ (tics ++ back)) n (start + len) []) at
+    ∙ ap (λ (n : ℕ). splice (front ++ (tics ++ back)) (length front + 0) n []) to
     ∙ inside front tics back [] 0 (length tics) (omega arith) (omega arith)
     ∙ ap (λ (x : List Tic). front ++ (x ++ back)) none
 
@@ -45,7 +45,7 @@ cut_front front back place = sym (append_assoc (take place front) (drop place fr
 pub behind : (front back others : List Tic) (from to start end : ℕ)
     → start ≡ length front + from
     → end ≡ length front + to
-    → front ++ replaced back from to others ≡ replaced (front ++ back) start end others
+    → front ++ splice back from to others ≡ splice (front ++ back) start end others
 behind front back others from to start end starts ends =
     let low : take start (front ++ back) ≡ front ++ take from back = ap (λ (n : ℕ). take n (front ++ back)) starts ∙ take-append-add front back from in
     let high : drop end (front ++ back) ≡ drop to back = ap (λ (n : ℕ). drop n (front ++ back)) ends ∙ drop-append-add front back to in
@@ -57,7 +57,7 @@ behind front back others from to start end starts ends =
 pub before : (front back others : List Tic) (from to : ℕ)
     → from ≤ length front
     → to ≤ length front
-    → replaced front from to others ++ back ≡ replaced (front ++ back) from to others
+    → splice front from to others ++ back ≡ splice (front ++ back) from to others
 before front back others from to low high =
     append_assoc (take from front) (others ++ drop to front) back
     ∙ ap (λ (x : List Tic). take from front ++ x) (append_assoc others (drop to front) back)
@@ -65,15 +65,15 @@ before front back others from to low high =
     ∙ ap (λ (x : List Tic). x ++ (others ++ drop to (front ++ back))) (sym (take-append-le from front back low))
 
 -- nothing is gone
-none_gone : (tics : List Tic) (place : ℕ) → replaced tics place place [] ≡ tics
+none_gone : (tics : List Tic) (place : ℕ) → splice tics place place [] ≡ tics
 none_gone tics place = take-append-drop place tics
 
 -- tics of a front and of what stands behind it are gone
 pub both_parts : (front back : List Tic) (from to : ℕ)
     → from ≤ to
-    → replaced front (min from (length front)) (min to (length front)) []
-    ++ replaced back (max from (length front) - length front) (max to (length front) - length front) []
-    ≡ replaced (front ++ back) from to []
+    → splice front (min from (length front)) (min to (length front)) []
+    ++ splice back (max from (length front) - length front) (max to (length front) - length front) []
+    ≡ splice (front ++ back) from to []
 both_parts front back from to order = elim (cases_lt (length front) to) [
   | inl past ↦ elim (cases_lt from (length front)) [
     | inl low ↦
@@ -99,7 +99,7 @@ both_parts front back from to order = elim (cases_lt (length front) to) [
         let start : from ≡ length front + (from - length front) = omega arith in
         let end : to ≡ length front + (to - length front) = omega arith in
         rw (a, b, c, d)
-        (ap (λ (x : List Tic). x ++ replaced back (from - length front) (to - length front) []) (none_gone front (length front))
+        (ap (λ (x : List Tic). x ++ splice back (from - length front) (to - length front) []) (none_gone front (length front))
         ∙ behind front back [] (from - length front) (to - length front) from to start end)
   ]
   | inr within ↦
@@ -113,7 +113,7 @@ both_parts front back from to order = elim (cases_lt (length front) to) [
 -- the front is longer, and as much is gone behind it
 pub joined_on : (front back more : List Tic) (moved : ℕ)
     → more ≡ take moved back
-    → (front ++ more) ++ replaced back 0 moved [] ≡ front ++ back
+    → (front ++ more) ++ splice back 0 moved [] ≡ front ++ back
 joined_on front back more moved is =
     append_assoc front more (drop moved back)
     ∙ ap (λ (x : List Tic). front ++ (x ++ drop moved back)) is
@@ -121,10 +121,10 @@ joined_on front back more moved is =
 
 -- some of what is to go is gone
 pub less_to_go : (tics next : List Tic) (from n left : ℕ)
-    → next ≡ replaced tics from (from + n) []
+    → next ≡ splice tics from (from + n) []
     → n ≤ left
     → from + left ≤ length tics
-    → replaced next from (from + (left - n)) [] ≡ replaced tics from (from + left) []
+    → splice next from (from + (left - n)) [] ≡ splice tics from (from + left) []
 less_to_go tics next from n left is few inside =
     let front : length (take from tics) ≡ from = length-take-le from tics (omega arith) in
     let low : take from next ≡ take from tics = ap (take from) is ∙ take_at (take from tics) (drop (from + n) tics) from front in
@@ -139,7 +139,7 @@ less_to_go tics next from n left is few inside =
     ap (λ (x : List Tic). x ++ drop (from + (left - n)) next) low ∙ ap (λ (x : List Tic). take from tics ++ x) high
 
 pub length_less : (tics next : List Tic) (from n left : ℕ)
-    → next ≡ replaced tics from (from + n) []
+    → next ≡ splice tics from (from + n) []
     → n ≤ left
     → from + left ≤ length tics
     → from + (left - n) ≤ length next
